@@ -1,0 +1,6 @@
+pub mod Patterns
+pub mod Laws
+pub mod Order
+pub mod BarLaw
+pub mod Core
+pub mod Whole
