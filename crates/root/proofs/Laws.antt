@@ -146,7 +146,7 @@ unfolding ofBits rootBits
 zero-root = refl
 
 -- a zero is written in one way
-zero-exponent : (s : Bool) (e : ℤ) → T (fits binary32 (fin s zero e)) → e ≡ pos 0
+pub zero-exponent : (s : Bool) (e : ℤ) → T (fits binary32 (fin s zero e)) → e ≡ pos 0
 unfolding fits
 zero-exponent s (pos zero) h = refl
 zero-exponent s (pos (suc k)) h = absurd (more (2 ^ k) (pow-pos k) (sym (ap (λ (z : ℕ). z * 1) (pow-succ' 2 k)) ∙ eqb→eq (2 ^ suc k * 1) 1 h))

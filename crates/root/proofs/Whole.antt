@@ -12,6 +12,7 @@ use lib.Ieee.Bits.{nanBits-above, ofBits-toBits}
 use lib.Ieee.Fits.{up-pos, down-pos, and-i, and-l, fits-widens}
 use Rattle.root.specs.Bar.{below, bar, barOf}
 use Rattle.root.specs.Root.{units, plain, val, rootBits, rootOf}
+use Rattle.root.proofs.Nans.{unequal-nan}
 use Rattle.root.proofs.Laws.{plain-units, plain-small, root-opened}
 
 -- 0.0, as MIR has it
@@ -65,10 +66,6 @@ at-zeros (fin s (suc m) e) h = absurd (none (suc m * up e * 1) (0 * 1 * down e) 
       where
         differ : (a b : ℕ) → 0 < a → b ≡ 0 → a ≡ b → ⊥
         differ a b h e k = omega arith
-
-pub no-number : div binary32 (ofBits binary32 0) (ofBits binary32 0) ≡ nan
-unfolding div ofBits
-no-number = refl
 
 pub at-others : (x : Float) → lt (ofBits binary32 0) x ≡ false → eq x (ofBits binary32 0) ≡ false → nan ≡ rootOf x
 unfolding lt eq ofBits rootOf
@@ -135,31 +132,6 @@ pub bar-others : (b : Float) → lt (ofBits binary32 0) b ≡ false → ofBits b
 unfolding barOf ofBits
 bar-others b h = sym (ap (λ (t : Bool). cond t (bar b) (fin false 0 (pos 0))) h)
 
-no-self : (a : ℕ) → eqb a a ≡ false → ⊥
-no-self a h = subst (λ (b : Bool). T b) h (eqb-refl a)
-
-pub self : (x : Float) → eq x x ≡ true → T (not (isNan x))
-unfolding eq isNan
-self nan h = absurd (false≢true h)
-self (inf s) h = tt
-self (fin s m e) h = tt
-
-differs : (x : Float) → eq x x ≡ false → x ≡ nan
-unfolding eq
-differs nan h = refl
-differs (inf true) h = absurd (true≢false h)
-differs (inf false) h = absurd (true≢false h)
-differs (fin true m e) h = absurd (both (eqb (m * up e * down e) (m * up e * down e)) (eqb-refl (m * up e * down e)) h)
-  where
-    both : (b : Bool) → T b → b && true ≡ false → ⊥
-    both true t h = true≢false h
-    both false t h = t
-differs (fin false m e) h = absurd (both (eqb (m * up e * down e) (m * up e * down e)) (eqb-refl (m * up e * down e)) h)
-  where
-    both : (b : Bool) → T b → b && true ≡ false → ⊥
-    both true t h = true≢false h
-    both false t h = t
-
 le-nan : (t : Float) → false ≡ le t nan
 unfolding le
 le-nan nan = refl
@@ -167,4 +139,4 @@ le-nan (inf s) = refl
 le-nan (fin s m e) = refl
 
 pub at-least-nan : (x t : Float) → eq x x ≡ false → false ≡ le t x
-at-least-nan x t h = le-nan t ∙ ap (λ (z : Float). le t z) (sym (differs x h))
+at-least-nan x t h = le-nan t ∙ ap (λ (z : Float). le t z) (sym (unequal-nan x h))

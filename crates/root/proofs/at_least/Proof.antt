@@ -2,7 +2,8 @@
 use mathlib.Core.Path.{sym, subst, refl}
 use lib.Dec.{T}
 use lib.Ieee.{binary32, fits, ofBits, toBits}
-use Rattle.root.proofs.Whole.{cast-ok, self, at-least-nan}
+use Rattle.root.proofs.Whole.{cast-ok, at-least-nan}
+use Rattle.root.proofs.Nans.{equal-no-nan}
 use borrow.Author.Needs.{needs}
 use Rattle.root.proofs.at_least.Statement.{statement}
 use Rattle.root.proofs.at_least.Tie as tie
@@ -12,7 +13,7 @@ held : (c : tie.Start) → T (fits binary32 (c .args .x))
 held c = subst T (sym (c .good .0 .1)) tt
 
 float-to-float-result : tie.Need-float-to-float-result
-float-to-float-result c = cast-ok (c .before .before .args .x) (held (c .before .before)) (self (c .before .before .args .x) (c .before .if1 .taken))
+float-to-float-result c = cast-ok (c .before .before .args .x) (held (c .before .before)) (equal-no-nan (c .before .before .args .x) (c .before .if1 .taken))
 
 returns : tie.Need-returns
 returns c = search needs

@@ -3,7 +3,8 @@ use mathlib.Core.Path.{sym, subst, _∙_}
 use borrow.Author.Needs.{needs}
 use lib.Dec.{T}
 use lib.Ieee.{binary32, fits}
-use Rattle.root.proofs.Whole.{no-nan, no-nan-bits, at-plain, at-infinity, at-zeros, no-number, at-others}
+use Rattle.root.proofs.Whole.{no-nan, no-nan-bits, at-plain, at-infinity, at-zeros, at-others}
+use Rattle.root.proofs.Nans.{zero-by-zero}
 use Rattle.root.proofs.root.Statement.{statement}
 use Rattle.root.proofs.root.Tie as tie
 
@@ -38,7 +39,7 @@ returns-3 : tie.Need-returns-3
 returns-3 c = at-zeros (c .before .before .args .x) (c .if3 .taken)
 
 returns-4 : tie.Need-returns-4
-returns-4 c = no-number ∙ at-others (c .before .before .args .x) (c .before .if1 .left) (c .if3 .left)
+returns-4 c = zero-by-zero ∙ at-others (c .before .before .args .x) (c .before .if1 .left) (c .if3 .left)
 
 pub root-spec : {M : Type 1} → statement M
 root-spec =
