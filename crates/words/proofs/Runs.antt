@@ -1,0 +1,48 @@
+-- What a loop that fills a list or writes words needs at its start, at a turn and at its end. By induction on the list. Assumes nothing.
+use Prim.Native.Nat.{ℕ, zero, suc, _+_, _-_, _<_, _≤_}
+use mathlib.Core.Path.{_≡_, refl, sym, _∙_, ap}
+use mathlib.Core.List.{List, [], _∷_, _++_, append-assoc}
+use native.Mathlib.Numerals.{add-one}
+use native.Mathlib.Nat.{add-zero, sub-zero}
+use native.Mathlib.Omega.{arith}
+use lib.ListN.{length, getD, set, take, drop, drop-of-length-le}
+use lib.Seq.{drop-cons, take-suc-set, take-all}
+use Rattle.words.specs.Lists.{listFrom}
+use Rattle.words.specs.Words.{wordAt, wordsOf, putWord, putWords}
+
+module _ {A : Type 0} (f : ℕ → A) where
+  pub from-snoc : (a n : ℕ) → listFrom f a (suc n) ≡ listFrom f a n ++ (f (a + n) ∷ [])
+  unfolding listFrom
+  from-snoc a zero = rw add-zero
+  from-snoc a (suc n) =
+      let e : a + suc n ≡ suc a + n = omega arith in
+      rw e (ap (λ (l : List A). f a ∷ l) (from-snoc (suc a) n))
+
+  pub length-from : (a n : ℕ) → length (listFrom f a n) ≡ n
+  unfolding listFrom
+  length-from a zero = refl
+  length-from a (suc n) = ap suc (length-from (suc a) n)
+
+  -- a loop that writes f 0, f 1, ..: at its start, at a turn and at its end
+  pub fill-none : (l : List A) → take 0 l ≡ listFrom f 0 0
+  unfolding listFrom
+  fill-none l = refl
+
+  pub fill-more : (l : List A) (i : ℕ) (v : A) → i < length l → v ≡ f i → take i l ≡ listFrom f 0 i → take (i + 1) (set l i v) ≡ listFrom f 0 (i + 1)
+  fill-more l i v h e p =
+      let z : 0 + i ≡ i = omega arith in
+      rw (add-one, take-suc-set l i v h, from-snoc 0 i, z, p, e)
+
+  pub fill-all : (l : List A) (i n : ℕ) → length l ≡ n → n ≤ i → i ≤ n → take i l ≡ listFrom f 0 i → l ≡ listFrom f 0 n
+  fill-all l i n e h k p =
+      let q : i ≡ n = omega arith in
+      sym (take-all i l (omega arith)) ∙ p ∙ ap (listFrom f 0) q
+
+-- a loop that writes words from 0 on: a turn, and the end
+pub puts-step : (b ws : List ℕ) (i : ℕ) → i < length ws → putWords b i (drop i ws) ≡ putWords (putWord b i (getD ws i 0)) (i + 1) (drop (i + 1) ws)
+unfolding putWords
+puts-step b ws i h = rw (drop-cons ws i 0 h, add-one)
+
+pub puts-none : (b ws : List ℕ) (i : ℕ) → length ws ≤ i → putWords b i (drop i ws) ≡ b
+unfolding putWords
+puts-none b ws i h = rw (drop-of-length-le ws h)
