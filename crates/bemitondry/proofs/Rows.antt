@@ -1,0 +1,65 @@
+-- Document 01's rows to be proved: each definition, worked out, gives the row's answer. One table, one statement, by computation. Assumes nothing.
+use mathlib.Core.Path.{_≡_, refl}
+use mathlib.Core.List.{List, [], _∷_}
+use Prim.Native.Nat.{ℕ}
+use lib.IntN.{ℤ, pos, negsuc}
+use lib.Ieee.{Float, binary32, ofInt, ofBits, neg, add, sub, mul, div, lt, eq}
+use Rattle.root.specs.Root.{rootOf}
+use Rattle.num.specs.F32.{f0, fhalf, f1}
+use Rattle.num.specs.Extremes.{fmin, fmax, clampOf}
+use Rattle.num.specs.Signs.{absOf, signumOf}
+use Rattle.vec.specs.declared.Vec3.{Vec3}
+use Rattle.vec.specs.Vec.{vsplat, vadd, vsub, vscale, vdot, vlength, vmax, vabs}
+use Rattle.sdf.specs.declared.Shape.{Shape}
+use Rattle.sdf.specs.declared.Shape.the-variants.{Sphere, RoundBox, Plane, Capsule, Torus, Cylinder, Cone}
+use Rattle.sdf.specs.Shapes.{sphere, roundBox, plane, capsule, torus, beyond, cylinderSquare, cylinderBody, cylinder, coneEnd, coneFoot, coneSign, coneAt, coneBody, cone, distOf}
+
+-- what a row works out and what it should be: the floats, then the whole numbers
+pub record Row : Type 0 where
+  pub floats : List Float
+  pub numbers : List ℕ
+  pub wantedFloats : List Float
+  pub wantedNumbers : List ℕ
+
+abbrev pub Holds : List Row → Type 0
+Holds [] = Unit
+Holds (r ∷ rs) = (r .floats ≡ r .wantedFloats) × ((r .numbers ≡ r .wantedNumbers) × Holds rs)
+
+-- the f32 of a whole number
+unfoldable pub whole : ℤ → Float
+whole z = ofInt binary32 z
+
+abbrev pub at : ℕ → ℕ → ℕ → Vec3
+at x y z = record { x = whole (pos x); y = whole (pos y); z = whole (pos z) }
+
+abbrev floatRow : List Float → List Float → Row
+floatRow fs ws = record { floats = fs; numbers = []; wantedFloats = ws; wantedNumbers = [] }
+
+-- a distance from a point is a whole number
+abbrev distRow : Shape → Vec3 → ℤ → Row
+distRow s p z = floatRow (distOf s p ∷ []) (whole z ∷ [])
+
+abbrev pub rows : List Row
+rows =
+    -- P1 root of 0.25 is 0.5
+    floatRow (rootOf (ofBits binary32 0x3e80_0000) ∷ []) (fhalf ∷ [])
+    -- P2 root of 2 has bits 3FB504F3 hex
+    ∷ floatRow (rootOf (whole (pos 2)) ∷ []) (ofBits binary32 0x3FB5_04F3 ∷ [])
+    -- P3 sphere at 0, r 1, from (3,4,0): 4
+    ∷ distRow (Sphere (at 0 0 0) f1) (at 3 4 0) (pos 4)
+    -- P4 round box half sizes 1, r 0, from (4,5,0): 5; from 0: -1
+    ∷ distRow (RoundBox (at 0 0 0) (at 1 1 1) f0) (at 4 5 0) (pos 5)
+    ∷ distRow (RoundBox (at 0 0 0) (at 1 1 1) f0) (at 0 0 0) (negsuc 0)
+    -- P5 torus 2 and 1 from 0: 1
+    ∷ distRow (Torus (at 0 0 0) (whole (pos 2)) f1) (at 0 0 0) (pos 1)
+    -- P6 capsule 0 to (0,2,0), r 1, from (0,5,0): 2
+    ∷ distRow (Capsule (at 0 0 0) (at 0 2 0) f1) (at 0 5 0) (pos 2)
+    -- P7 cylinder, same: 3
+    ∷ distRow (Cylinder (at 0 0 0) (at 0 2 0) f1) (at 0 5 0) (pos 3)
+    -- P8 cone 0 to (0,2,0), radii 1 and 0, from (0,3,0): 1
+    ∷ distRow (Cone (at 0 0 0) (at 0 2 0) f1 f0) (at 0 3 0) (pos 1)
+    ∷ []
+
+pub rows-hold : Holds rows
+unfolding whole ofInt ofBits neg add sub mul div lt eq rootOf fmin fmax clampOf absOf signumOf vsplat vadd vsub vscale vdot vlength vmax vabs sphere roundBox plane capsule torus beyond cylinderSquare cylinderBody cylinder coneEnd coneFoot coneSign coneAt coneBody cone distOf
+rows-hold = (refl, (refl, (refl, (refl, (refl, (refl, (refl, (refl, (refl, (refl, (refl, (refl, (refl, (refl, (refl, (refl, (refl, (refl, tt))))))))))))))))))

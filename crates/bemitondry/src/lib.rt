@@ -1,0 +1,78 @@
+// The public calls: each tests what it is given, and answers or refuses by document 01's number.
+ghost use mathlib.Core.Path.{_≡_};
+ghost use Rattle.bemitondry.specs.Answers.{scalarOf, boxedOf};
+ghost use Rattle.bemitondry.specs.Calls.{rootAnswer, acosAnswer, primDistAnswer, primBoundsAnswer};
+ghost use Rattle.rules.specs.Prims.{shapeOf};
+use sdf::Aabb;
+use sdf::Bounds;
+use vec::Vec3;
+
+pub enum Scalar {
+    Refused(u32),
+    Is(f32),
+}
+
+pub enum Boxed {
+    Refused(u32),
+    Is(Aabb),
+}
+
+fn scalar_of(n: u32, x: f32) -> Scalar
+    ensures { λ r. ⌜ r ≡ scalarOf n x ⌝ }
+{
+    if n == 0 {
+        return Scalar::Is(x);
+    }
+    Scalar::Refused(n)
+}
+
+// A plane has no box.
+fn boxed_of(n: u32, b: Bounds) -> Boxed
+    ensures { λ r. ⌜ r ≡ boxedOf n b ⌝ }
+{
+    match b {
+        Bounds::Within(b) => {
+            if n == 0 {
+                return Boxed::Is(b);
+            }
+            Boxed::Refused(n)
+        }
+        Bounds::Unbounded => Boxed::Refused(rules::lower(n, 5)),
+    }
+}
+
+// The square root, from 0 to f32::MAX.
+pub fn root(x: f32) -> Scalar
+    ensures { λ r. ⌜ r ≡ rootAnswer x ⌝ }
+{
+    scalar_of(
+        rules::unless(1, rules::up_to(x, 3.4028235e38)),
+        root::root(x),
+    )
+}
+
+// The arc cosine, from -1 to 1.
+pub fn acos(x: f32) -> Scalar
+    ensures { λ r. ⌜ r ≡ acosAnswer x ⌝ }
+{
+    scalar_of(rules::unless(1, num::magnitude(x, 1.0)), num::acos(x))
+}
+
+// The distance from p of a primitive: its kind and its eight floats, a the first three, b the next three, then u and v.
+pub fn prim_dist(kind: u32, a: Vec3, b: Vec3, u: f32, v: f32, p: Vec3) -> Scalar
+    ensures { λ r. ⌜ r ≡ primDistAnswer kind (shapeOf kind a b u v) p ⌝ }
+{
+    let s = rules::shape_of(kind, a, b, u, v);
+    let n = rules::lower(
+        rules::prim_number(kind, s),
+        rules::unless(1, rules::within(p, 200000.0)),
+    );
+    scalar_of(n, s.dist(p))
+}
+
+pub fn prim_bounds(kind: u32, a: Vec3, b: Vec3, u: f32, v: f32) -> Boxed
+    ensures { λ r. ⌜ r ≡ primBoundsAnswer kind (shapeOf kind a b u v) ⌝ }
+{
+    let s = rules::shape_of(kind, a, b, u, v);
+    boxed_of(rules::prim_number(kind, s), s.bounds())
+}
