@@ -1,0 +1,12 @@
+-- `viewer::refused` meets its contract. Assumes nothing.
+use mathlib.Core.Path.{refl}
+use Rattle.viewer.specs.Replies.{refusedReply}
+use Rattle.viewer.proofs.refused.Statement.{statement}
+use Rattle.viewer.proofs.refused.Tie as tie
+
+returns : tie.Need-returns
+unfolding refusedReply
+returns c = refl
+
+pub refused-spec : {M : Type 1} → statement M
+refused-spec = tie.close (tie.spec returns)
