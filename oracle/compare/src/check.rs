@@ -40,6 +40,16 @@ fn compare_out(call: Call, out: &[u8], want: &[u32; OUT_WORDS]) -> Result<(), St
     if out.len() < OUT_BYTES {
         return untouched(out, 0);
     }
+    let mut bytes = [0; OUT_BYTES];
+    words::put(&mut bytes, want);
+    // Word by word only where some bit differs: it takes longer.
+    if out[..OUT_BYTES] != bytes {
+        compare_words(call, out, want)?;
+    }
+    untouched(&out[OUT_BYTES..], OUT_BYTES)
+}
+
+fn compare_words(call: Call, out: &[u8], want: &[u32; OUT_WORDS]) -> Result<(), String> {
     for (i, &want) in want.iter().enumerate() {
         let have = words::word(out, i);
         let named = i < call.named_words();
@@ -48,7 +58,7 @@ fn compare_out(call: Call, out: &[u8], want: &[u32; OUT_WORDS]) -> Result<(), St
             return Err(format!("word {i} of out is {have}, must be {want}"));
         }
     }
-    untouched(&out[OUT_BYTES..], OUT_BYTES)
+    Ok(())
 }
 
 fn same(have: u32, want: u32, by_bits: bool) -> bool {

@@ -6,9 +6,9 @@
 
 use crate::answer::answer;
 use crate::call::{Call, OUT_BYTES, OUT_WORDS};
-use crate::cases::{degenerate::degenerate, limits::limits, rows::rows};
+use crate::cases::{degenerate::degenerate, limits::limits, rows::rows, Case};
 use crate::draw;
-use crate::judge::{self, DONE};
+use crate::judge::{self, DONE, KINDS};
 use crate::rng::Rng;
 use crate::words;
 use std::fs;
@@ -17,9 +17,9 @@ const RECORD_WORDS: usize = 32;
 const ARGS: usize = 2;
 const OUT: usize = 16;
 
-/// Of the chosen cases, which are too many to store, one in this many.
-const LIMITS_EVERY: usize = 5;
-const DEGENERATE_EVERY: usize = 3;
+/// Of the chosen cases of shapes, which are too many to store, one in this many: no divisor of
+/// the number of cases that a word or a shape has, so that all sorts come in turn.
+const EVERY: usize = 5;
 
 /// Random cases: roots and arc cosines, distances, and bounds.
 const ONES: usize = 60;
@@ -40,11 +40,12 @@ fn records() -> Vec<[u32; RECORD_WORDS]> {
     for row in rows() {
         records.push(record(row.case.call, &row.case.args));
     }
-    for case in limits().iter().step_by(LIMITS_EVERY) {
-        records.push(record(case.call, &case.args));
-    }
-    for case in degenerate().iter().step_by(DEGENERATE_EVERY) {
-        records.push(record(case.call, &case.args));
+    for cases in [limits(), degenerate()] {
+        for (i, case) in cases.iter().enumerate() {
+            if stored_always(case) || i % EVERY == 0 {
+                records.push(record(case.call, &case.args));
+            }
+        }
     }
     let mut rng = Rng::new(6);
     for _ in 0..ONES {
@@ -64,6 +65,11 @@ fn records() -> Vec<[u32; RECORD_WORDS]> {
         records.push(record(Call::PrimBounds, &draw::prim_args(&mut rng)[..9]));
     }
     records
+}
+
+/// Cases of root, arc cosine and unknown kinds: there are few of them.
+fn stored_always(case: &Case) -> bool {
+    case.args.len() == 1 || case.args[0] >= KINDS
 }
 
 fn record(call: Call, args: &[u32]) -> [u32; RECORD_WORDS] {
