@@ -15,6 +15,9 @@ fn main() {
         eprintln!("build our static library first, or name its folder in BEMITONDRY_LIB");
         exit(1);
     }
+    if env::var("CARGO_CFG_TARGET_ARCH").unwrap() != "x86_64" {
+        println!("cargo:warning=rt staticlib writes x86-64 code alone, which can't be linked here");
+    }
     println!("cargo:rustc-link-search=native={}", folder.display());
     println!("cargo:rustc-link-lib=static=viewer");
 }
