@@ -1,0 +1,27 @@
+//! Links our static library.
+
+use std::env;
+use std::path::{Path, PathBuf};
+use std::process::exit;
+
+fn main() {
+    println!("cargo:rerun-if-changed=build.rs");
+    println!("cargo:rerun-if-env-changed=BEMITONDRY_LIB");
+    let folder = env::var_os("BEMITONDRY_LIB").map_or_else(in_the_repository, PathBuf::from);
+    let library = folder.join("libviewer.a");
+    println!("cargo:rerun-if-changed={}", library.display());
+    if !library.is_file() {
+        eprintln!("there is no {}", library.display());
+        eprintln!("build our static library first, or name its folder in BEMITONDRY_LIB");
+        exit(1);
+    }
+    if env::var("CARGO_CFG_TARGET_ARCH").unwrap() != "x86_64" {
+        println!("cargo:warning=rt staticlib writes x86-64 code alone, which can't be linked here");
+    }
+    println!("cargo:rustc-link-search=native={}", folder.display());
+    println!("cargo:rustc-link-lib=static=viewer");
+}
+
+fn in_the_repository() -> PathBuf {
+    Path::new(&env::var_os("CARGO_MANIFEST_DIR").unwrap()).join("../../target/staticlib")
+}

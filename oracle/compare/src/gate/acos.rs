@@ -1,0 +1,44 @@
+//! Arc cosine on a sample of all patterns from -1 to 1: bit for bit document 01's formula, and
+//! close to the double-precision one.
+
+use crate::acos_error::AcosError;
+use crate::call::{Call, OUT_BYTES};
+use crate::check::check;
+use crate::words;
+
+/// A prime, so that the low bits of the patterns go through all their values.
+const STRIDE: usize = 263;
+
+const ONE: u32 = 1f32.to_bits();
+const MINUS: u32 = 1 << 31;
+
+pub fn run() -> Result<String, String> {
+    let mut count = 0u32;
+    let mut worst = AcosError::default();
+    let mut out = [0; OUT_BYTES];
+    let mut both_signs = |size: u32| {
+        for bits in [size, size | MINUS] {
+            count += 1;
+            check(Call::Acos, &bits.to_le_bytes(), &mut out)?;
+            worst.take(bits, words::word(&out, 0));
+        }
+        Ok::<(), String>(())
+    };
+
+    for size in (0..=ONE).step_by(STRIDE) {
+        both_signs(size)?;
+    }
+    // The ends of the range and those of the subnormal numbers, then powers of two.
+    for i in 0..4096 {
+        both_signs(i)?;
+        both_signs(ONE - i)?;
+        both_signs(f32::MIN_POSITIVE.to_bits() - 2048 + i)?;
+    }
+    for power in (1..127).map(|i| i << 23) {
+        for size in power - 1..=power + 1 {
+            both_signs(size)?;
+        }
+    }
+    worst.verdict()?;
+    Ok(format!("{count} patterns, each the formula's; {worst}"))
+}

@@ -1,0 +1,39 @@
+//! Distance and bounds of random shapes, equal as floats to the source's.
+
+use crate::call::{Call, MOST_ARGS, OUT_BYTES};
+use crate::check::check;
+use crate::draw;
+use crate::judge::{DONE, KINDS};
+use crate::rng::Rng;
+use crate::words;
+
+const CASES: usize = 3_000_000;
+
+/// Bounds of one shape in this many.
+const BOUNDS_EVERY: usize = 4;
+
+/// So few answers of some kind would mean that the cases are badly drawn.
+const LEAST_OF_A_KIND: usize = CASES / 10;
+
+pub fn run() -> Result<String, String> {
+    let mut rng = Rng::new(2);
+    let mut out = [0; OUT_BYTES];
+    let mut args = [0; 4 * MOST_ARGS];
+    let mut distances = [0; KINDS as usize];
+    let mut bounds = [0; KINDS as usize];
+    for i in 0..CASES {
+        let words = draw::prim_args(&mut rng);
+        let kind = words[0] as usize;
+        words::put(&mut args, &words);
+        distances[kind] += usize::from(check(Call::PrimDist, &args, &mut out)? == DONE);
+        if i % BOUNDS_EVERY == 0 {
+            bounds[kind] += usize::from(check(Call::PrimBounds, &args, &mut out)? == DONE);
+        }
+    }
+    if distances.iter().any(|&n| n < LEAST_OF_A_KIND) {
+        return Err(format!("too few distances of some kind: {distances:?}"));
+    }
+    Ok(format!(
+        "each the source's; by kind, distances {distances:?}, bounds {bounds:?}"
+    ))
+}

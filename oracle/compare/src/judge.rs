@@ -1,0 +1,121 @@
+//! The number that each call must send, from document 01 and VIEWER.md alone.
+
+use crate::call::{Call, OUT_BYTES};
+use crate::words;
+
+pub const DONE: u32 = 0;
+pub const BAD_WORD: u32 = 1;
+pub const NO_ROOM: u32 = 2;
+pub const NO_EXTENT: u32 = 4;
+pub const WRONG_KIND: u32 = 5;
+
+pub const KINDS: u32 = 7;
+pub const PLANE: u32 = 2;
+pub const CAPSULE: u32 = 3;
+
+/// What a float may be: a finite number from `lo` to `hi`, both taken. A -0 stands for 0.
+#[derive(Clone, Copy, Debug)]
+pub struct Range {
+    pub lo: f32,
+    pub hi: f32,
+}
+
+impl Range {
+    pub fn has(self, x: f32) -> bool {
+        // A comparison with a NaN is false, and no infinity lies between finite bounds.
+        self.lo <= x && x <= self.hi
+    }
+}
+
+const fn magnitude(hi: f32) -> Range {
+    Range { lo: -hi, hi }
+}
+
+const fn not_negative(hi: f32) -> Range {
+    Range { lo: 0.0, hi }
+}
+
+pub const COORD: Range = magnitude(10_000.0);
+pub const RADIUS: Range = not_negative(10_000.0);
+pub const NORMAL: Range = magnitude(1.5);
+pub const POINT: Range = magnitude(200_000.0);
+pub const ROOT: Range = not_negative(f32::MAX);
+pub const ACOS: Range = magnitude(1.0);
+
+/// The ranges of the words that a kind uses, in the source's order; none for an unknown kind.
+pub fn ranges(kind: u32) -> Option<&'static [Range]> {
+    const C: Range = COORD;
+    const R: Range = RADIUS;
+    const N: Range = NORMAL;
+    Some(match kind {
+        0 => &[C, C, C, R],
+        1 => &[C, C, C, R, R, R, R],
+        2 => &[N, N, N, C],
+        3 => &[C, C, C, C, C, C, R],
+        4 => &[C, C, C, R, R],
+        5 => &[C, C, C, C, C, C, R],
+        6 => &[C, C, C, C, C, C, R, R],
+        _ => return None,
+    })
+}
+
+/// Where several numbers apply the lowest is sent.
+struct Lowest(u32);
+
+impl Lowest {
+    fn apply(&mut self, number: u32, when: bool) {
+        if when && (self.0 == DONE || number < self.0) {
+            self.0 = number;
+        }
+    }
+}
+
+/// The number for `args`, all its bytes, and an `out` of that many bytes.
+pub fn number(call: Call, args: &[u8], out_len: usize) -> u32 {
+    let mut lowest = Lowest(DONE);
+    let short = args.len() < 4 * call.args_words();
+    lowest.apply(NO_ROOM, short || out_len < OUT_BYTES);
+    if !short {
+        judge_args(call, &words::args(args), &mut lowest);
+    }
+    lowest.0
+}
+
+fn judge_args(call: Call, args: &[u32], lowest: &mut Lowest) {
+    match call {
+        Call::Root => judge_floats(&args[..1], &[ROOT], lowest),
+        Call::Acos => judge_floats(&args[..1], &[ACOS], lowest),
+        Call::PrimDist => {
+            judge_prim(args[0], &args[1..9], lowest);
+            judge_floats(&args[9..12], &[POINT; 3], lowest);
+        }
+        Call::PrimBounds => {
+            judge_prim(args[0], &args[1..9], lowest);
+            lowest.apply(WRONG_KIND, args[0] == PLANE);
+        }
+    }
+}
+
+fn judge_prim(kind: u32, words: &[u32], lowest: &mut Lowest) {
+    match ranges(kind) {
+        None => lowest.apply(BAD_WORD, true),
+        Some(ranges) => judge_floats(words, ranges, lowest),
+    }
+    lowest.apply(NO_EXTENT, kind == CAPSULE && square_of_axis(words) == 0.0);
+}
+
+/// Judges as many words as there are ranges.
+fn judge_floats(words: &[u32], ranges: &[Range], lowest: &mut Lowest) {
+    for (&word, range) in words.iter().zip(ranges) {
+        lowest.apply(BAD_WORD, !range.has(f32::from_bits(word)));
+    }
+}
+
+/// The computed `ba.dot(ba)`, which can be 0 for ends that differ.
+fn square_of_axis(words: &[u32]) -> f32 {
+    let part = |i: usize| {
+        let ba = f32::from_bits(words[i + 3]) - f32::from_bits(words[i]);
+        ba * ba
+    };
+    (part(0) + part(1)) + part(2)
+}

@@ -1,0 +1,45 @@
+//! Compares our library with the source it is ported from.
+
+mod acos_error;
+mod answer;
+mod bench;
+mod call;
+mod cases;
+mod check;
+mod draw;
+mod gate;
+mod judge;
+mod rng;
+mod store;
+mod sweep;
+mod viewer;
+mod words;
+
+use std::env;
+use std::process::ExitCode;
+
+const USAGE: &str = "\
+compare gate          the comparisons of every change, some seconds
+compare sweep root    every f32 from 0 to f32::MAX
+compare sweep acos    every f32 from -1 to 1
+compare bench         times, ours beside the Rust's
+compare store FILE    writes the answers that are replayed without Rust";
+
+fn main() -> ExitCode {
+    let args: Vec<String> = env::args().skip(1).collect();
+    let args: Vec<&str> = args.iter().map(String::as_str).collect();
+    let result = match args[..] {
+        ["gate"] => gate::run(),
+        ["sweep", which] => sweep::run(which),
+        ["bench"] => bench::run(),
+        ["store", file] => store::run(file),
+        _ => Err(format!("usage:\n{USAGE}")),
+    };
+    match result {
+        Ok(()) => ExitCode::SUCCESS,
+        Err(what) => {
+            eprintln!("{what}");
+            ExitCode::FAILURE
+        }
+    }
+}
