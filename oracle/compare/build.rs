@@ -12,16 +12,13 @@ fn main() {
     println!("cargo:rerun-if-changed={}", library.display());
     if !library.is_file() {
         eprintln!("there is no {}", library.display());
-        eprintln!("build our static library first, or name its folder in BEMITONDRY_LIB");
+        eprintln!("run oracle/library first, or name the folder of another in BEMITONDRY_LIB");
         exit(1);
-    }
-    if env::var("CARGO_CFG_TARGET_ARCH").unwrap() != "x86_64" {
-        println!("cargo:warning=rt staticlib writes x86-64 code alone, which can't be linked here");
     }
     println!("cargo:rustc-link-search=native={}", folder.display());
     println!("cargo:rustc-link-lib=static=viewer");
 }
 
 fn in_the_repository() -> PathBuf {
-    Path::new(&env::var_os("CARGO_MANIFEST_DIR").unwrap()).join("../../target/staticlib")
+    Path::new(&env::var_os("CARGO_MANIFEST_DIR").unwrap()).join("../../target/native")
 }
