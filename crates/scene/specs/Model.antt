@@ -66,6 +66,9 @@ abbrev pub noHead : Head
 noHead = record { material = 0; blend = nan; cutters = 0; kind = 0; shape = noShape; place = 0 }
 
 -- ---- cutters and pieces
+unfoldable pub cutterKind : List ℕ → ℕ → ℕ
+cutterKind w c = wordOf w (5904 + 16 * c)
+
 unfoldable pub cutterAt : List ℕ → List Float → ℕ → Shape
 cutterAt w f c = primOf w f (5904 + 16 * c)
 

@@ -1,7 +1,7 @@
 // The plan in rows of sixteen words, each held as a whole number and as a float at the same place; pieces, their distances, and the plain list.
 ghost use mathlib.Core.Path.{_≡_};
 ghost use Prim.Native.Nat.{_+_};
-ghost use Rattle.scene.specs.Model.{noVec, noHead, headAt, cutterAt, cuttersFrom, pieceAt, piecesFrom};
+ghost use Rattle.scene.specs.Model.{noVec, noHead, headAt, cutterKind, cutterAt, cuttersFrom, pieceAt, piecesFrom};
 ghost use Rattle.scene.specs.Nearest.{cutBy, carve, pieceDist, closer, nearer, nearest, listHit, distMatList};
 use sdf::Shape;
 use vec::Vec3;
@@ -44,6 +44,16 @@ pub fn cutter(ws: &[u32; 22288], fs: &[f32; 22288], c: usize) -> Shape
         );
     }
     rules::shape_of(0, no_vec(), no_vec(), 0.0 / 0.0, 0.0 / 0.0)
+}
+
+// The kind word of the cutter at place c.
+pub fn cutter_kind(ws: &[u32; 22288], c: usize) -> u32
+    ensures { λ r. ⌜ r ≡ cutterKind (now (ws .entry)) c ⌝ }
+{
+    if c < 1024 {
+        return ws[5904 + 16 * c];
+    }
+    0
 }
 
 fn no_vec() -> Vec3

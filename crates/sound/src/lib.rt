@@ -1,0 +1,207 @@
+// Tests of a plan: which number it gets for the sections that a call reads.
+ghost use mathlib.Core.Path.{_≡_};
+ghost use mathlib.Core.Bool.{true, false, Bool·beq};
+ghost use Rattle.sound.specs.Sound.{countsOk, ownNumber, placeOk, usedWith, tallyOne, tally, noTally, headsFrom, cutterNumber, cuttersNumber, pieceCutters, piecesCutters, objectsNumber, solidsCutters, solidsOf};
+ghost use Rattle.scene.specs.Model.{countMaterials};
+use scene::Head;
+
+// Pieces so far: their number, whether every place is right, and how many places they use.
+pub struct Tally {
+    pub number: u32,
+    pub placed: bool,
+    pub used: u32,
+}
+
+// What planes and objects get, and how many places each of the two lists uses.
+pub struct Solids {
+    pub number: u32,
+    pub planes: u32,
+    pub objects: u32,
+}
+
+pub fn counts_ok(ws: &[u32; 22288]) -> bool
+    ensures { λ r. ⌜ r ≡ countsOk (now (ws .entry)) ⌝ }
+{
+    rules::both(
+        ws[0] <= 64,
+        rules::both(ws[1] <= 16, rules::both(ws[2] <= 16, ws[3] <= 256)),
+    )
+}
+
+fn same(a: bool, b: bool) -> bool
+    ensures { λ r. ⌜ r ≡ Bool·beq a b ⌝ }
+{
+    if a {
+        return b;
+    }
+    !b
+}
+
+// A piece's own words, among planes or among objects.
+pub fn own_number(planes: bool, materials: u32, h: Head) -> u32
+    ensures { λ r. ⌜ r ≡ ownNumber planes materials h ⌝ }
+{
+    let shape = h.shape;
+    rules::lower(
+        rules::lower(
+            rules::prim_number(h.kind, shape),
+            rules::unless(1, rules::up_to(h.blend, 10000.0)),
+        ),
+        rules::lower(
+            rules::unless(3, h.material < materials),
+            rules::unless(5, same(h.kind == 2, planes)),
+        ),
+    )
+}
+
+// Before and after are the places used without and with the piece.
+fn place_ok(planes: bool, before: u32, after: u32, place: u32) -> bool
+    ensures { λ r. ⌜ r ≡ placeOk planes before after place ⌝ }
+{
+    if planes {
+        return place as u64 + after as u64 == 1024;
+    }
+    place == before
+}
+
+// For an n above 8, and past 1,024, it counts no further.
+fn used_with(used: u32, n: u32) -> u32
+    ensures { λ r. ⌜ r ≡ usedWith used n ⌝ }
+{
+    if n <= 8 {
+        if used <= 1024 {
+            return used + n;
+        }
+    }
+    used
+}
+
+// One piece more.
+fn tally_one(planes: bool, materials: u32, t: Tally, h: Head) -> Tally
+    ensures { λ r. ⌜ r ≡ tallyOne planes materials t h ⌝ }
+{
+    let after = used_with(t.used, h.cutters);
+    Tally {
+        number: rules::lower(t.number, own_number(planes, materials, h)),
+        placed: rules::both(
+            t.placed,
+            rules::both(h.cutters <= 8, place_ok(planes, t.used, after, h.place)),
+        ),
+        used: after,
+    }
+}
+
+// n pieces from row r on.
+fn tally(ws: &[u32; 22288], fs: &[f32; 22288], planes: bool, r: u32, n: u32) -> Tally
+    ensures { λ t. ⌜ t ≡ tally planes (countMaterials (now (ws .entry))) noTally (headsFrom (now (ws .entry)) (now (fs .entry)) r n) ⌝ }
+{
+    let materials = ws[0];
+    let mut t = Tally {
+        number: 0,
+        placed: true,
+        used: 0,
+    };
+    let mut j: u32 = 0;
+    while j < n {
+        t = tally_one(
+            planes,
+            materials,
+            t,
+            scene::head_at(ws, fs, r as usize + j as usize),
+        );
+        j += 1;
+    }
+    t
+}
+
+fn cutter_number(ws: &[u32; 22288], fs: &[f32; 22288], c: usize) -> u32
+    ensures { λ r. ⌜ r ≡ cutterNumber (now (ws .entry)) (now (fs .entry)) c ⌝ }
+{
+    rules::prim_number(scene::cutter_kind(ws, c), scene::cutter(ws, fs, c))
+}
+
+// n cutters from a place on.
+fn cutters_number(ws: &[u32; 22288], fs: &[f32; 22288], place: u32, n: u32) -> u32
+    ensures { λ r. ⌜ r ≡ cuttersNumber (now (ws .entry)) (now (fs .entry)) place n ⌝ }
+{
+    let mut least: u32 = 0;
+    let mut j: u32 = 0;
+    while j < n {
+        least = rules::lower(least, cutter_number(ws, fs, place as usize + j as usize));
+        j += 1;
+    }
+    least
+}
+
+fn piece_cutters(ws: &[u32; 22288], fs: &[f32; 22288], r: usize) -> u32
+    ensures { λ n. ⌜ n ≡ pieceCutters (now (ws .entry)) (now (fs .entry)) r ⌝ }
+{
+    let h = scene::head_at(ws, fs, r);
+    cutters_number(ws, fs, h.place, h.cutters)
+}
+
+// The cutters of n pieces from row r on.
+fn pieces_cutters(ws: &[u32; 22288], fs: &[f32; 22288], r: u32, n: u32) -> u32
+    ensures { λ m. ⌜ m ≡ piecesCutters (now (ws .entry)) (now (fs .entry)) r n ⌝ }
+{
+    let mut least: u32 = 0;
+    let mut j: u32 = 0;
+    while j < n {
+        least = rules::lower(least, piece_cutters(ws, fs, r as usize + j as usize));
+        j += 1;
+    }
+    least
+}
+
+// The objects with their cutters.
+pub fn objects_number(ws: &[u32; 22288], fs: &[f32; 22288]) -> u32
+    ensures { λ r. ⌜ r ≡ objectsNumber (now (ws .entry)) (now (fs .entry)) ⌝ }
+{
+    if !counts_ok(ws) {
+        return 2;
+    }
+    let t = tally(ws, fs, false, 113, ws[3]);
+    if !rules::both(t.placed, t.used <= 1024) {
+        return rules::lower(t.number, 2);
+    }
+    rules::lower(t.number, pieces_cutters(ws, fs, 113, ws[3]))
+}
+
+// Planes and objects with their cutters.
+pub fn solids(ws: &[u32; 22288], fs: &[f32; 22288]) -> Solids
+    ensures { λ r. ⌜ r ≡ solidsOf (now (ws .entry)) (now (fs .entry)) ⌝ }
+{
+    if !counts_ok(ws) {
+        return Solids {
+            number: 2,
+            planes: 0,
+            objects: 0,
+        };
+    }
+    let p = tally(ws, fs, true, 65, ws[1]);
+    let o = tally(ws, fs, false, 113, ws[3]);
+    let own = rules::lower(p.number, o.number);
+    let placed = rules::both(
+        p.placed,
+        rules::both(o.placed, p.used as u64 + o.used as u64 <= 1024),
+    );
+    let cut = solids_cutters(ws, fs, placed);
+    Solids {
+        number: rules::lower(own, cut),
+        planes: p.used,
+        objects: o.used,
+    }
+}
+
+// The cutters' number, where every place is right.
+fn solids_cutters(ws: &[u32; 22288], fs: &[f32; 22288], placed: bool) -> u32
+    ensures { λ r. ⌜ r ≡ solidsCutters (now (ws .entry)) (now (fs .entry)) placed ⌝ }
+{
+    if placed {
+        return rules::lower(
+            pieces_cutters(ws, fs, 65, ws[1]),
+            pieces_cutters(ws, fs, 113, ws[3]),
+        );
+    }
+    2
+}
