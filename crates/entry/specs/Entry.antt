@@ -17,7 +17,7 @@ use Rattle.sound.specs.declared.Solids.{Solids}
 use Rattle.sound.specs.Sound.{countsOk, ownNumber, lowest, solidsOf}
 use Rattle.entry.specs.declared.Added.{Added}
 use Rattle.entry.specs.declared.Added.the-variants.{Refused, Done}
-use Rattle.entry.specs.Records.{materialOf, materialNumber, lightOf, lightNumber, kept}
+use Rattle.entry.specs.Records.{kept}
 
 unfoldable pub addedOf : ℕ → ℕ → Added
 addedOf no index = cond (eqb no 0) (Done index) (Refused no)
@@ -48,10 +48,10 @@ countOf planes w = cond planes (countPlanes w) (countObjects w)
 abbrev pub rowOf : Bool → ℕ
 rowOf planes = cond planes planeRow objectRow
 
--- s is what the plan's planes and objects get, and the places that they use
-unfoldable pub pieceNumber : Bool → List ℕ → Solids → List ℕ → List Float → ℕ → ℕ
-pieceNumber planes w s aw af bytes =
-    lower (argsNumber planes (countMaterials w) aw af bytes) (roomNumber (countOf planes w) (limitOf planes) s (wordOf aw 2))
+-- before is a number that applies already, s what the plan's planes and objects get with the places that they use
+unfoldable pub pieceNumber : ℕ → Bool → List ℕ → Solids → List ℕ → List Float → ℕ → ℕ
+pieceNumber before planes w s aw af bytes =
+    lower before (lower (argsNumber planes (countMaterials w) aw af bytes) (roomNumber (countOf planes w) (limitOf planes) s (wordOf aw 2)))
 
 -- ---- the words left
 abbrev pub pieceWords : List ℕ → ℕ → List ℕ
@@ -94,9 +94,9 @@ unfoldable pub pieceLeft : Bool → List ℕ → Solids → List ℕ → ℕ →
 pieceLeft planes w s aw no = cond (eqb no 0) (withPiece planes w aw (newPlace planes s (getD aw 2 0))) w
 
 -- what an entry of a piece answers, and the plan that it leaves
-pub record AddsPiece (planes : Bool) (w : List ℕ) (f : List Float) (aw : List ℕ) (af : List Float) (bytes : ℕ) (r : Added) (w′ : List ℕ) : Type 0 where
-  pub answer : r ≡ addedOf (pieceNumber planes w (solidsOf w f) aw af bytes) (countOf planes w)
-  pub plan : w′ ≡ pieceLeft planes w (solidsOf w f) aw (pieceNumber planes w (solidsOf w f) aw af bytes)
+pub record AddsPiece (before : ℕ) (planes : Bool) (w : List ℕ) (f : List Float) (aw : List ℕ) (af : List Float) (bytes : ℕ) (r : Added) (w′ : List ℕ) : Type 0 where
+  pub answer : r ≡ addedOf (pieceNumber before planes w (solidsOf w f) aw af bytes) (countOf planes w)
+  pub plan : w′ ≡ pieceLeft planes w (solidsOf w f) aw (pieceNumber before planes w (solidsOf w f) aw af bytes)
 
 -- ---- materials and lights: sixteen and thirty-two words; the counts alone are tested
 abbrev pub materialWords : List ℕ → List ℕ
@@ -121,10 +121,11 @@ withMaterial w aw = set (sets w (16 * (1 + countMaterials w)) (materialWords aw)
 unfoldable pub withLight : List ℕ → List ℕ → List ℕ
 withLight w aw = set (sets (sets w (16 * (81 + 2 * countLights w)) (lightWords aw)) (16 * (82 + 2 * countLights w)) zeros16) 2 (oneMore (countLights w))
 
-pub record AddsMaterial (w aw : List ℕ) (af : List Float) (r : Added) (w′ : List ℕ) : Type 0 where
-  pub answer : r ≡ addedOf (recordNumber (materialNumber (materialOf af 0)) w (countMaterials w) 64) (countMaterials w)
-  pub plan : w′ ≡ cond (eqb (recordNumber (materialNumber (materialOf af 0)) w (countMaterials w) 64) 0) (withMaterial w aw) w
+-- no is what the material or the light gets, with whatever applies already
+pub record AddsMaterial (no : ℕ) (w aw : List ℕ) (r : Added) (w′ : List ℕ) : Type 0 where
+  pub answer : r ≡ addedOf (recordNumber no w (countMaterials w) 64) (countMaterials w)
+  pub plan : w′ ≡ cond (eqb (recordNumber no w (countMaterials w) 64) 0) (withMaterial w aw) w
 
-pub record AddsLight (w aw : List ℕ) (af : List Float) (r : Added) (w′ : List ℕ) : Type 0 where
-  pub answer : r ≡ addedOf (recordNumber (lightNumber (lightOf af 0)) w (countLights w) 16) (countLights w)
-  pub plan : w′ ≡ cond (eqb (recordNumber (lightNumber (lightOf af 0)) w (countLights w) 16) 0) (withLight w aw) w
+pub record AddsLight (no : ℕ) (w aw : List ℕ) (r : Added) (w′ : List ℕ) : Type 0 where
+  pub answer : r ≡ addedOf (recordNumber no w (countLights w) 16) (countLights w)
+  pub plan : w′ ≡ cond (eqb (recordNumber no w (countLights w) 16) 0) (withLight w aw) w

@@ -5,7 +5,7 @@ ghost use Prim.Native.Nat.{_+_, _*_};
 ghost use lib.ListN.{getD, length};
 ghost use lib.Seq.{sets};
 ghost use Rattle.entry.specs.Records.{materialNumber, dark, lightNumber, usedWords, kept};
-ghost use Rattle.entry.specs.Entry.{addedOf, argCutter, argCutters, argsNumber, roomNumber, limitOf, countOf, rowOf, pieceNumber, pieceWords, cutterWords, putCutters, newPlace, oneMore, withPiece, AddsPiece};
+ghost use Rattle.entry.specs.Entry.{addedOf, argCutter, argCutters, argsNumber, roomNumber, limitOf, countOf, rowOf, pieceNumber, pieceWords, cutterWords, putCutters, newPlace, oneMore, withPiece, AddsPiece, recordNumber, materialWords, lightWords, withMaterial, withLight, AddsMaterial, AddsLight};
 ghost use Rattle.scene.specs.Model.{floatOf, vecOf, primOf, headAt, countMaterials};
 ghost use Rattle.words.specs.Lists.{listFrom};
 ghost use Rattle.sound.specs.Sound.{lowest};
@@ -263,6 +263,7 @@ fn count_of(planes: bool, ws: &[u32; 22288]) -> u32
 }
 
 fn piece_number(
+    before: u32,
     planes: bool,
     ws: &[u32; 22288],
     s: Solids,
@@ -270,11 +271,14 @@ fn piece_number(
     af: &[f32],
     bytes: usize,
 ) -> u32
-    ensures { λ r. ⌜ r ≡ pieceNumber planes (now (ws .entry)) s (now (aw .entry)) (now (af .entry)) bytes ⌝ }
+    ensures { λ r. ⌜ r ≡ pieceNumber before planes (now (ws .entry)) s (now (aw .entry)) (now (af .entry)) bytes ⌝ }
 {
     rules::lower(
-        args_number(planes, ws[0], aw, af, bytes),
-        room_number(count_of(planes, ws), limit_of(planes), s, word_of(aw, 2)),
+        before,
+        rules::lower(
+            args_number(planes, ws[0], aw, af, bytes),
+            room_number(count_of(planes, ws), limit_of(planes), s, word_of(aw, 2)),
+        ),
     )
 }
 
@@ -387,8 +391,10 @@ fn with_piece(planes: bool, ws: &mut [u32; 22288], aw: &[u32], place: u32)
     }
 }
 
-// A plane or an object with its cutters: all enters, or nothing changes. `fs` is the plan seen as floats, `bytes` how long the arguments are.
+// A plane or an object with its cutters: all enters, or nothing changes. `before` is a number that applies already, `fs` the plan seen as
+// floats, `bytes` how long the arguments are.
 pub fn add_piece(
+    before: u32,
     planes: bool,
     ws: &mut [u32; 22288],
     fs: &[f32; 22288],
@@ -396,13 +402,112 @@ pub fn add_piece(
     af: &[f32],
     bytes: usize,
 ) -> Added
-    ensures { λ r. ⌜ AddsPiece planes (now (ws .entry)) (now (fs .entry)) (now (aw .entry)) (now (af .entry)) bytes r (now (ws .exit)) ⌝ }
+    ensures { λ r. ⌜ AddsPiece before planes (now (ws .entry)) (now (fs .entry)) (now (aw .entry)) (now (af .entry)) bytes r (now (ws .exit)) ⌝ }
 {
     let s = sound::solids(ws, fs);
-    let no = piece_number(planes, ws, s, aw, af, bytes);
+    let no = piece_number(before, planes, ws, s, aw, af, bytes);
     let count = count_of(planes, ws);
     if no == 0 {
         with_piece(planes, ws, aw, new_place(planes, s, word_of(aw, 2)));
     }
     added_of(no, count)
+}
+
+fn record_number(no: u32, ws: &[u32; 22288], count: u32, limit: u32) -> u32
+    ensures { λ r. ⌜ r ≡ recordNumber no (now (ws .entry)) count limit ⌝ }
+{
+    rules::lower(
+        no,
+        rules::unless(2, rules::both(sound::counts_ok(ws), count < limit)),
+    )
+}
+
+fn material_words(aw: &[u32]) -> [u32; 16]
+    ensures { λ r. ⌜ r ≡ materialWords (now (aw .entry)) ⌝ }
+{
+    [
+        word_of(aw, 0),
+        word_of(aw, 1),
+        word_of(aw, 2),
+        word_of(aw, 3),
+        word_of(aw, 4),
+        0,
+        0,
+        0,
+        0,
+        0,
+        0,
+        0,
+        0,
+        0,
+        0,
+        0,
+    ]
+}
+
+fn light_words(aw: &[u32]) -> [u32; 16]
+    ensures { λ r. ⌜ r ≡ lightWords (now (aw .entry)) ⌝ }
+{
+    [
+        word_of(aw, 0),
+        word_of(aw, 1),
+        word_of(aw, 2),
+        word_of(aw, 3),
+        word_of(aw, 4),
+        word_of(aw, 5),
+        word_of(aw, 6),
+        word_of(aw, 7),
+        word_of(aw, 8),
+        word_of(aw, 9),
+        word_of(aw, 10),
+        word_of(aw, 11),
+        word_of(aw, 12),
+        word_of(aw, 13),
+        word_of(aw, 14),
+        0,
+    ]
+}
+
+fn with_material(ws: &mut [u32; 22288], aw: &[u32])
+    ensures { λ _. ⌜ now (ws .exit) ≡ withMaterial (now (ws .entry)) (now (aw .entry)) ⌝ }
+{
+    let count = ws[0];
+    let rec = material_words(aw);
+    put_row(ws, 1 + count as usize, &rec);
+    ws[0] = one_more(count);
+}
+
+// A light takes two rows, and the second is spare.
+fn with_light(ws: &mut [u32; 22288], aw: &[u32])
+    ensures { λ _. ⌜ now (ws .exit) ≡ withLight (now (ws .entry)) (now (aw .entry)) ⌝ }
+{
+    let count = ws[2];
+    let rec = light_words(aw);
+    let none = [0u32; 16];
+    put_row(ws, 81 + 2 * (count as usize), &rec);
+    put_row(ws, 82 + 2 * (count as usize), &none);
+    ws[2] = one_more(count);
+}
+
+// `no` is what the material gets, with whatever applies already.
+pub fn add_material(no: u32, ws: &mut [u32; 22288], aw: &[u32]) -> Added
+    ensures { λ r. ⌜ AddsMaterial no (now (ws .entry)) (now (aw .entry)) r (now (ws .exit)) ⌝ }
+{
+    let count = ws[0];
+    let n = record_number(no, ws, count, 64);
+    if n == 0 {
+        with_material(ws, aw);
+    }
+    added_of(n, count)
+}
+
+pub fn add_light(no: u32, ws: &mut [u32; 22288], aw: &[u32]) -> Added
+    ensures { λ r. ⌜ AddsLight no (now (ws .entry)) (now (aw .entry)) r (now (ws .exit)) ⌝ }
+{
+    let count = ws[2];
+    let n = record_number(no, ws, count, 16);
+    if n == 0 {
+        with_light(ws, aw);
+    }
+    added_of(n, count)
 }
