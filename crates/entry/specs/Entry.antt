@@ -1,39 +1,22 @@
 -- "A piece and its cutters enter together or nothing changes." What each entry answers, and the words that it leaves. Definitions only.
--- A piece's arguments are nine rows of sixteen words: the piece, then its cutters.
 use Prim.Native.Nat.{ℕ, zero, suc, _+_, _-_, _*_}
 use mathlib.Core.Path.{_≡_}
-use mathlib.Core.Bool.{Bool, true, false, cond, _&&_}
+use mathlib.Core.Bool.{Bool, true, false, cond, _&&_, _||_}
 use mathlib.Core.List.{List, [], _∷_}
 use lib.ListN.{getD, set}
 use lib.Seq.{sets}
 use lib.Dec.{leb, ltb, eqb}
 use lib.Ieee.{Float}
-use Rattle.words.specs.Lists.{listFrom}
 use Rattle.rules.specs.Refusals.{noRoom, unless, lower}
-use Rattle.rules.specs.Prims.{primNumber}
-use Rattle.scene.specs.declared.Head.{Head}
-use Rattle.scene.specs.Model.{wordOf, primOf, headAt, countMaterials, countPlanes, countLights, countObjects, planeRow, objectRow, cutterRow}
+use Rattle.scene.specs.Model.{wordOf, countMaterials, countPlanes, countLights, countObjects, planeRow, objectRow, cutterRow}
 use Rattle.sound.specs.declared.Solids.{Solids}
-use Rattle.sound.specs.Sound.{countsOk, ownNumber, lowest, solidsOf}
+use Rattle.sound.specs.Sound.{countsOk, solidsOf}
+use Rattle.args.specs.Args.{argsNumber}
 use Rattle.entry.specs.declared.Added.{Added}
 use Rattle.entry.specs.declared.Added.the-variants.{Refused, Done}
-use Rattle.entry.specs.Records.{kept}
 
 unfoldable pub addedOf : ℕ → ℕ → Added
 addedOf no index = cond (eqb no 0) (Done index) (Refused no)
-
--- ---- the arguments of a piece
--- the cutter in row r
-unfoldable pub argCutter : List ℕ → List Float → ℕ → ℕ
-argCutter aw af r = primNumber (wordOf aw (16 * r)) (primOf aw af (16 * r))
-
--- "Where the number of cutters is above 8, or `args` end before the last cutter, the piece gets 2 and its cutters' words are not judged; its own words are."
-unfoldable pub argCutters : List ℕ → List Float → ℕ → ℕ → ℕ
-argCutters aw af bytes n = cond (leb n 8 && leb (64 + 64 * n) bytes) (lowest 0 (listFrom (argCutter aw af) 1 n)) noRoom
-
-unfoldable pub argsNumber : Bool → ℕ → List ℕ → List Float → ℕ → ℕ
-argsNumber planes materials aw af bytes =
-    cond (leb 64 bytes) (lower (ownNumber planes materials (headAt aw af 0)) (argCutters aw af bytes (headAt aw af 0 .cutters))) noRoom
 
 -- ---- room: in the list, and among the 1,024
 unfoldable pub roomNumber : ℕ → ℕ → Solids → ℕ → ℕ
@@ -52,6 +35,14 @@ rowOf planes = cond planes planeRow objectRow
 unfoldable pub pieceNumber : ℕ → Bool → List ℕ → Solids → List ℕ → List Float → ℕ → ℕ
 pieceNumber before planes w s aw af bytes =
     lower before (lower (argsNumber planes (countMaterials w) aw af bytes) (roomNumber (countOf planes w) (limitOf planes) s (wordOf aw 2)))
+
+-- ---- "Words that a kind does not use are written 0": sphere 4, round box 7, plane 4, capsule 7, torus 5, cylinder 7, cone 8
+unfoldable pub usedWords : ℕ → ℕ
+usedWords k = cond (eqb k 0 || eqb k 2) 4 (cond (eqb k 4) 5 (cond (eqb k 6) 8 7))
+
+-- word j of a primitive's eight, whose first is word i
+unfoldable pub kept : List ℕ → ℕ → ℕ → ℕ → ℕ
+kept w i kind j = cond (ltb j (usedWords kind)) (getD w (i + j) 0) 0
 
 -- ---- the words left
 abbrev pub pieceWords : List ℕ → ℕ → List ℕ

@@ -1,33 +1,9 @@
 // Entries: a material, a plane, an object or a light is tested and written, or nothing changes.
 ghost use mathlib.Core.Path.{_≡_};
-ghost use mathlib.Core.Bool.{_||_};
-ghost use Prim.Native.Nat.{_+_, _*_};
-ghost use lib.ListN.{getD, length};
+ghost use Prim.Native.Nat.{_*_};
 ghost use lib.Seq.{sets};
-ghost use Rattle.entry.specs.Records.{materialNumber, dark, lightNumber, usedWords, kept};
-ghost use Rattle.entry.specs.Entry.{addedOf, argCutter, argCutters, argsNumber, roomNumber, limitOf, countOf, rowOf, pieceNumber, pieceWords, cutterWords, putCutters, newPlace, oneMore, withPiece, AddsPiece, recordNumber, materialWords, lightWords, withMaterial, withLight, AddsMaterial, AddsLight};
-ghost use Rattle.scene.specs.Model.{floatOf, vecOf, primOf, headAt, countMaterials};
-ghost use Rattle.words.specs.Lists.{listFrom};
-ghost use Rattle.sound.specs.Sound.{lowest};
-use scene::Head;
-use sdf::Shape;
+ghost use Rattle.entry.specs.Entry.{addedOf, roomNumber, limitOf, countOf, rowOf, pieceNumber, usedWords, kept, pieceWords, cutterWords, putCutters, newPlace, oneMore, withPiece, AddsPiece, recordNumber, materialWords, lightWords, withMaterial, withLight, AddsMaterial, AddsLight};
 use sound::Solids;
-use vec::Vec3;
-
-pub struct Material {
-    pub albedo: Vec3,
-    pub roughness: f32,
-    pub metallic: f32,
-}
-
-// Corners counter-clockwise, seen from the emitting side.
-pub struct QuadLight {
-    pub v0: Vec3,
-    pub v1: Vec3,
-    pub v2: Vec3,
-    pub v3: Vec3,
-    pub emit: Vec3,
-}
 
 pub enum Added {
     Refused(u32),
@@ -41,56 +17,6 @@ pub fn added_of(no: u32, index: u32) -> Added
         return Added::Done(index);
     }
     Added::Refused(no)
-}
-
-pub fn material_number(m: Material) -> u32
-    ensures { λ r. ⌜ r ≡ materialNumber m ⌝ }
-{
-    rules::unless(
-        1,
-        rules::both(
-            rules::within_up_to(m.albedo, 1.0),
-            rules::both(
-                rules::up_to(m.roughness, 1.0),
-                rules::up_to(m.metallic, 1.0),
-            ),
-        ),
-    )
-}
-
-// Two edges that span nothing.
-fn dark(e1: Vec3, e2: Vec3) -> bool
-    ensures { λ r. ⌜ r ≡ dark e1 e2 ⌝ }
-{
-    if rules::no_length(e1) {
-        return true;
-    }
-    if rules::no_length(e2) {
-        return true;
-    }
-    e1.cross(e2).length() == 0.0
-}
-
-pub fn light_number(l: QuadLight) -> u32
-    ensures { λ r. ⌜ r ≡ lightNumber l ⌝ }
-{
-    let corners = rules::both(
-        rules::within(l.v0, 10000.0),
-        rules::both(
-            rules::within(l.v1, 10000.0),
-            rules::both(
-                rules::within(l.v2, 10000.0),
-                rules::both(
-                    rules::within(l.v3, 10000.0),
-                    rules::within_up_to(l.emit, 10000.0),
-                ),
-            ),
-        ),
-    );
-    rules::lower(
-        rules::unless(1, corners),
-        rules::unless(4, !dark(l.v1.sub(l.v0), l.v3.sub(l.v0))),
-    )
 }
 
 // How many of its eight words a kind uses.
@@ -110,127 +36,9 @@ fn kept(aw: &[u32], i: usize, kind: u32, j: u32) -> u32
     ensures { λ r. ⌜ r ≡ kept (now (aw .entry)) i kind j ⌝ }
 {
     if j < used_words(kind) {
-        return word_after(aw, i, j as usize);
+        return args::word_after(aw, i, j as usize);
     }
     0
-}
-
-// Word i + j of the arguments, with no sum that could wrap.
-fn word_after(aw: &[u32], i: usize, j: usize) -> u32
-    ensures { λ r. ⌜ r ≡ getD (now (aw .entry)) (i + j) 0 ⌝ }
-{
-    if i < aw.len() {
-        if j < aw.len() - i {
-            return aw[i + j];
-        }
-    }
-    0
-}
-
-// Word i of the arguments, and 0 past their end.
-pub fn word_of(aw: &[u32], i: usize) -> u32
-    ensures { λ r. ⌜ r ≡ getD (now (aw .entry)) i 0 ⌝ }
-{
-    if i < aw.len() { aw[i] } else { 0 }
-}
-
-// Float i of the arguments, and no number past their end.
-pub fn float_of(af: &[f32], i: usize) -> f32
-    ensures { λ r. ⌜ r ≡ floatOf (now (af .entry)) i ⌝ }
-{
-    if i < af.len() { af[i] } else { 0.0 / 0.0 }
-}
-
-pub fn vec_of(af: &[f32], i: u32) -> Vec3
-    ensures { λ r. ⌜ r ≡ vecOf (now (af .entry)) i ⌝ }
-{
-    let at = i as usize;
-    Vec3 {
-        x: float_of(af, at),
-        y: float_of(af, at + 1),
-        z: float_of(af, at + 2),
-    }
-}
-
-// The primitive whose kind is word k of row r of the arguments.
-fn prim_of(aw: &[u32], af: &[f32], r: u32, k: u32) -> Shape
-    ensures { λ s. ⌜ s ≡ primOf (now (aw .entry)) (now (af .entry)) (16 * r + k) ⌝ }
-{
-    let at = 16 * (r as usize) + k as usize;
-    rules::shape_of(
-        word_of(aw, at),
-        Vec3 {
-            x: float_of(af, at + 1),
-            y: float_of(af, at + 2),
-            z: float_of(af, at + 3),
-        },
-        Vec3 {
-            x: float_of(af, at + 4),
-            y: float_of(af, at + 5),
-            z: float_of(af, at + 6),
-        },
-        float_of(af, at + 7),
-        float_of(af, at + 8),
-    )
-}
-
-// The piece of the arguments: their first row.
-fn arg_head(aw: &[u32], af: &[f32]) -> Head
-    ensures { λ h. ⌜ h ≡ headAt (now (aw .entry)) (now (af .entry)) 0 ⌝ }
-{
-    Head {
-        material: word_of(aw, 0),
-        blend: float_of(af, 1),
-        cutters: word_of(aw, 2),
-        kind: word_of(aw, 3),
-        shape: prim_of(aw, af, 0, 3),
-        place: word_of(aw, 12),
-    }
-}
-
-// The cutter in row r of the arguments.
-fn arg_cutter(aw: &[u32], af: &[f32], r: u32) -> u32
-    ensures { λ n. ⌜ n ≡ argCutter (now (aw .entry)) (now (af .entry)) r ⌝ }
-{
-    rules::prim_number(word_of(aw, 16 * (r as usize)), prim_of(aw, af, r, 0))
-}
-
-// The n cutters from row 1 on.
-fn lowest_cutter(aw: &[u32], af: &[f32], n: u32) -> u32
-    ensures { λ r. ⌜ r ≡ lowest 0 (listFrom (argCutter (now (aw .entry)) (now (af .entry))) 1 n) ⌝ }
-{
-    let mut least: u32 = 0;
-    let mut j: u32 = 0;
-    while j < n {
-        least = rules::lower(least, arg_cutter(aw, af, 1 + j));
-        j += 1;
-    }
-    least
-}
-
-// 2 where there are more than 8, or where the arguments, of so many bytes, end before the last.
-fn arg_cutters(aw: &[u32], af: &[f32], bytes: usize, n: u32) -> u32
-    ensures { λ r. ⌜ r ≡ argCutters (now (aw .entry)) (now (af .entry)) bytes n ⌝ }
-{
-    if n <= 8 {
-        if 64 + 64 * (n as usize) <= bytes {
-            return lowest_cutter(aw, af, n);
-        }
-    }
-    2
-}
-
-fn args_number(planes: bool, materials: u32, aw: &[u32], af: &[f32], bytes: usize) -> u32
-    ensures { λ r. ⌜ r ≡ argsNumber planes materials (now (aw .entry)) (now (af .entry)) bytes ⌝ }
-{
-    if bytes < 64 {
-        return 2;
-    }
-    let h = arg_head(aw, af);
-    rules::lower(
-        sound::own_number(planes, materials, h),
-        arg_cutters(aw, af, bytes, h.cutters),
-    )
 }
 
 // Room for one more in a list, and for n cutters more among the 1,024.
@@ -276,8 +84,13 @@ fn piece_number(
     rules::lower(
         before,
         rules::lower(
-            args_number(planes, ws[0], aw, af, bytes),
-            room_number(count_of(planes, ws), limit_of(planes), s, word_of(aw, 2)),
+            args::args_number(planes, ws[0], aw, af, bytes),
+            room_number(
+                count_of(planes, ws),
+                limit_of(planes),
+                s,
+                args::word_of(aw, 2),
+            ),
         ),
     )
 }
@@ -285,11 +98,11 @@ fn piece_number(
 fn piece_words(aw: &[u32], place: u32) -> [u32; 16]
     ensures { λ r. ⌜ r ≡ pieceWords (now (aw .entry)) place ⌝ }
 {
-    let k = word_of(aw, 3);
+    let k = args::word_of(aw, 3);
     [
-        word_of(aw, 0),
-        word_of(aw, 1),
-        word_of(aw, 2),
+        args::word_of(aw, 0),
+        args::word_of(aw, 1),
+        args::word_of(aw, 2),
         k,
         kept(aw, 4, k, 0),
         kept(aw, 4, k, 1),
@@ -311,7 +124,7 @@ fn cutter_words(aw: &[u32], r: u32) -> [u32; 16]
     ensures { λ ws. ⌜ ws ≡ cutterWords (now (aw .entry)) r ⌝ }
 {
     let i = 16 * (r as usize);
-    let k = word_of(aw, i);
+    let k = args::word_of(aw, i);
     [
         k,
         kept(aw, i + 1, k, 0),
@@ -381,7 +194,7 @@ fn with_piece(planes: bool, ws: &mut [u32; 22288], aw: &[u32], place: u32)
     ensures { λ _. ⌜ now (ws .exit) ≡ withPiece planes (now (ws .entry)) (now (aw .entry)) place ⌝ }
 {
     let count = count_of(planes, ws);
-    put_cutters(ws, aw, place, word_of(aw, 2));
+    put_cutters(ws, aw, place, args::word_of(aw, 2));
     let rec = piece_words(aw, place);
     put_row(ws, row_of(planes) as usize + count as usize, &rec);
     if planes {
@@ -408,7 +221,7 @@ pub fn add_piece(
     let no = piece_number(before, planes, ws, s, aw, af, bytes);
     let count = count_of(planes, ws);
     if no == 0 {
-        with_piece(planes, ws, aw, new_place(planes, s, word_of(aw, 2)));
+        with_piece(planes, ws, aw, new_place(planes, s, args::word_of(aw, 2)));
     }
     added_of(no, count)
 }
@@ -426,11 +239,11 @@ fn material_words(aw: &[u32]) -> [u32; 16]
     ensures { λ r. ⌜ r ≡ materialWords (now (aw .entry)) ⌝ }
 {
     [
-        word_of(aw, 0),
-        word_of(aw, 1),
-        word_of(aw, 2),
-        word_of(aw, 3),
-        word_of(aw, 4),
+        args::word_of(aw, 0),
+        args::word_of(aw, 1),
+        args::word_of(aw, 2),
+        args::word_of(aw, 3),
+        args::word_of(aw, 4),
         0,
         0,
         0,
@@ -449,21 +262,21 @@ fn light_words(aw: &[u32]) -> [u32; 16]
     ensures { λ r. ⌜ r ≡ lightWords (now (aw .entry)) ⌝ }
 {
     [
-        word_of(aw, 0),
-        word_of(aw, 1),
-        word_of(aw, 2),
-        word_of(aw, 3),
-        word_of(aw, 4),
-        word_of(aw, 5),
-        word_of(aw, 6),
-        word_of(aw, 7),
-        word_of(aw, 8),
-        word_of(aw, 9),
-        word_of(aw, 10),
-        word_of(aw, 11),
-        word_of(aw, 12),
-        word_of(aw, 13),
-        word_of(aw, 14),
+        args::word_of(aw, 0),
+        args::word_of(aw, 1),
+        args::word_of(aw, 2),
+        args::word_of(aw, 3),
+        args::word_of(aw, 4),
+        args::word_of(aw, 5),
+        args::word_of(aw, 6),
+        args::word_of(aw, 7),
+        args::word_of(aw, 8),
+        args::word_of(aw, 9),
+        args::word_of(aw, 10),
+        args::word_of(aw, 11),
+        args::word_of(aw, 12),
+        args::word_of(aw, 13),
+        args::word_of(aw, 14),
         0,
     ]
 }

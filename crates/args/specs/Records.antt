@@ -1,9 +1,7 @@
--- Materials and lights: their words, what they get, and how many words a kind of primitive uses. Definitions only.
-use Prim.Native.Nat.{ℕ, _+_, _*_}
-use mathlib.Core.Bool.{Bool, true, false, cond, not, _&&_, _||_}
-use mathlib.Core.List.{List, [], _∷_}
-use lib.ListN.{getD}
-use lib.Dec.{ltb, eqb}
+-- Materials and lights, and what they get. Definitions only.
+use Prim.Native.Nat.{ℕ, _+_}
+use mathlib.Core.Bool.{Bool, not, _&&_, _||_}
+use mathlib.Core.List.{List}
 use lib.Ieee.{Float, eq}
 use Rattle.num.specs.F32.{f0, f1}
 use Rattle.vec.specs.declared.Vec3.{Vec3}
@@ -12,8 +10,8 @@ use Rattle.rules.specs.Refusals.{badNumber, noExtent, unless, lower}
 use Rattle.rules.specs.Ranges.{far, upTo, withinUpTo, coordinates}
 use Rattle.rules.specs.Prims.{noLength}
 use Rattle.scene.specs.Model.{floatOf, vecOf}
-use Rattle.entry.specs.declared.Material.{Material}
-use Rattle.entry.specs.declared.QuadLight.{QuadLight}
+use Rattle.args.specs.declared.Material.{Material}
+use Rattle.args.specs.declared.QuadLight.{QuadLight}
 
 -- ---- a material: albedo, roughness, metallic, "0 to 1"
 unfoldable pub materialOf : List Float → ℕ → Material
@@ -34,11 +32,3 @@ unfoldable pub lightNumber : QuadLight → ℕ
 lightNumber l =
     lower (unless badNumber (coordinates (l .v0) && (coordinates (l .v1) && (coordinates (l .v2) && (coordinates (l .v3) && withinUpTo (l .emit) far)))))
     (unless noExtent (not (dark (vsub (l .v1) (l .v0)) (vsub (l .v3) (l .v0)))))
-
--- ---- "Words that a kind does not use are written 0": sphere 4, round box 7, plane 4, capsule 7, torus 5, cylinder 7, cone 8
-unfoldable pub usedWords : ℕ → ℕ
-usedWords k = cond (eqb k 0 || eqb k 2) 4 (cond (eqb k 4) 5 (cond (eqb k 6) 8 7))
-
--- word j of a primitive's eight, whose first is word i
-unfoldable pub kept : List ℕ → ℕ → ℕ → ℕ → ℕ
-kept w i kind j = cond (ltb j (usedWords kind)) (getD w (i + j) 0) 0
