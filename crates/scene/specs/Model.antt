@@ -1,18 +1,14 @@
 -- What a plan's words stand for: VIEWER.md's places, decoded. A plan is 1,393 rows of sixteen words, held as whole numbers (w) and as floats (f, a NaN's
 -- bits a NaN) at the same places. Definitions only.
 use Prim.Native.Nat.{ℕ, _+_, _*_}
-use mathlib.Core.List.{List, map}
+use mathlib.Core.List.{List}
 use lib.ListN.{getD}
-use lib.Ieee.{Float, nan, binary32, ofBits}
+use lib.Ieee.{Float, nan}
 use Rattle.vec.specs.declared.Vec3.{Vec3}
 use Rattle.sdf.specs.declared.Shape.{Shape}
 use Rattle.rules.specs.Prims.{shapeOf}
 use Rattle.words.specs.Lists.{listFrom}
 use Rattle.scene.specs.declared.Head.{Head}
-
--- the words, seen as floats
-abbrev pub floatsOf : List ℕ → List Float
-floatsOf w = map (ofBits binary32) w
 
 abbrev pub wordOf : List ℕ → ℕ → ℕ
 wordOf w i = getD w i 0

@@ -4,6 +4,7 @@ use mathlib.Core.Bool.{Bool, true, false, cond}
 use mathlib.Core.List.{List, [], _∷_}
 use lib.ListN.{length, getD, set}
 use lib.Dec.{leb, ltb}
+use lib.Ieee.{Float, binary32, ofBits}
 use Rattle.words.specs.Lists.{listFrom}
 
 -- the number of the four bytes from p
@@ -17,6 +18,13 @@ wordAt b i = cond (ltb i (length b / 4)) (le4 b (4 * i)) 0
 -- the first n words
 abbrev pub wordsOf : List ℕ → ℕ → List ℕ
 wordsOf b n = listFrom (wordAt b) 0 n
+
+-- a table's words seen as floats, a NaN's bits a NaN; 0 past its end
+unfoldable pub floatAt : List ℕ → ℕ → Float
+floatAt ws i = ofBits binary32 (getD ws i 0)
+
+abbrev pub floatsOf : List ℕ → ℕ → List Float
+floatsOf ws n = listFrom (floatAt ws) 0 n
 
 -- the four bytes from p, replaced by those of w
 abbrev pub put4 : List ℕ → ℕ → ℕ → List ℕ

@@ -2,7 +2,7 @@
 ghost use mathlib.Core.Path.{_≡_};
 ghost use Prim.Native.Nat.{_+_, _*_, min};
 ghost use lib.ListN.{length};
-ghost use Rattle.words.specs.Words.{wordAt, wordsOf, putWord, withWords, sentWords};
+ghost use Rattle.words.specs.Words.{wordAt, wordsOf, floatAt, floatsOf, putWord, withWords, sentWords};
 
 // The number of four bytes, low first.
 fn four(b0: u8, b1: u8, b2: u8, b3: u8) -> u32
@@ -53,6 +53,26 @@ pub fn load(b: &[u8], words: &mut [u32])
     }
     while i < words.len() {
         words[i] = word(b, i);
+        i += 1;
+    }
+}
+
+fn float_at(ws: &[u32], i: usize) -> f32
+    ensures { λ r. ⌜ r ≡ floatAt (now (ws .entry)) i ⌝ }
+{
+    if i < ws.len() {
+        return num::float(ws[i]);
+    }
+    0.0
+}
+
+// The words seen as floats, a NaN's bits a NaN.
+pub fn floats(ws: &[u32], fs: &mut [f32])
+    ensures { λ _. ⌜ now (fs .exit) ≡ floatsOf (now (ws .entry)) (length (now (fs .entry))) ⌝ }
+{
+    let mut i: usize = 0;
+    while i < fs.len() {
+        fs[i] = float_at(ws, i);
         i += 1;
     }
 }
