@@ -209,16 +209,6 @@ pub root-unique : (x r : Float) → T (plain x) → IsRoot x r → r ≡ rootOf 
 root-unique x r h a = root-only x r (rootOf x) a (root-is x h)
 
 -- ---- examples
--- the root of 0.25 is 0.5
-quarter : rootOf (fin false 1 (negsuc 1)) ≡ fin false 1 (negsuc 0)
-unfolding rootOf ofBits
-quarter = refl
-
--- the root of 2
-two : toBits binary32 (rootOf (fin false 1 (pos 1))) ≡ 0x3fb504f3
-unfolding rootOf toBits ofBits
-two = refl
-
 -- the root of the smallest f32, of the largest, of the largest below 1, and of the smallest that is normal
 least : toBits binary32 (rootOf (ofBits binary32 1)) ≡ 0x1a3504f3
 unfolding rootOf toBits ofBits
