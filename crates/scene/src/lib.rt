@@ -43,6 +43,8 @@ pub fn cutter(ws: &[u32; 22288], fs: &[f32; 22288], c: usize) -> Shape
             fs[i + 8],
         );
     }
+    let w: &[u32] = ws;
+    let f: &[f32] = fs;
     rules::shape_of(0, no_vec(), no_vec(), 0.0 / 0.0, 0.0 / 0.0)
 }
 
