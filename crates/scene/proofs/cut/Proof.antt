@@ -1,4 +1,4 @@
--- `scene::cut` meets its contract. Assumes nothing.
+-- `scene::cut` meets its contract, by those of its calls. Assumes nothing.
 use Rattle.scene.specs.Nearest.{cutBy}
 use borrow.Author.Needs.{needs}
 use Rattle.scene.proofs.cut.Statement.{statement}
