@@ -1,51 +1,46 @@
+-- `scene::carve` meets its contract: what is left is d with the cutters passed taken away. Assumes nothing.
+use borrow.Author.Needs.{needs}
+use Prim.Native.Nat.{_≤_, _-_}
+use mathlib.Core.Path.{_≡_}
+use native.Mathlib.Omega.{arith}
+use Rattle.scene.specs.Model.{cuttersFrom}
+use Rattle.scene.specs.Nearest.{carve}
+use Rattle.scene.proofs.Lists.{carve-none, carve-more}
 use Rattle.scene.proofs.carve.Statement.{statement}
 use Rattle.scene.proofs.carve.Tie as tie
-use Rattle.scene.proofs.carve.Reads as reads
-use Rattle.scene.proofs.carve.Lts as lts
-use Rattle.scene.proofs.cut.Reads as cut-reads
-use Rattle.scene.proofs.cutter.Reads as cutter-reads
 
 abbrev Inv-loop : tie.InvT-loop
-Inv-loop ws fs place n p d left₀ j₀ left j = ?
+Inv-loop ws fs place n p d left₀ j₀ left j = (j ≤ n) × (left ≡ carve (cuttersFrom ws fs place j) p d)
 
 abbrev μ-loop : tie.MeasureT-loop
-μ-loop ws fs place n p d left₀ j₀ left j = ?
+μ-loop ws fs place n p d left₀ j₀ left j = n - j
 
--- src/lib.rt:115:5
 loop-holds : tie.Need-loop-holds Inv-loop μ-loop
-loop-holds c = ?
+loop-holds c = let a = c .args in (search needs, carve-none (a .ws .now) (a .fs .now) (a .place) (a .p) (a .d))
 
--- src/lib.rt:116:58
 cast-cutter : tie.Need-cast-cutter Inv-loop μ-loop
-cast-cutter c = ?
+cast-cutter c = search needs
 
--- src/lib.rt:116:41
 add-cutter : tie.Need-add-cutter Inv-loop μ-loop
-add-cutter c = ?
+add-cutter c = search needs
 
--- src/lib.rt:116:26
 cutter-requires : tie.Need-cutter-requires Inv-loop μ-loop
-cutter-requires c κs = ?
+cutter-requires c κs = search needs
 
--- src/lib.rt:116:9
 cut-requires : tie.Need-cut-requires Inv-loop μ-loop
-cut-requires c κs = ?
+cut-requires c κs = search needs
 
--- src/lib.rt:117:9
 add-j : tie.Need-add-j Inv-loop μ-loop
-add-j c = ?
+add-j c = search needs
 
--- src/lib.rt:115:5
 loop-less : tie.Need-loop-less Inv-loop μ-loop
-loop-less c = ?
+loop-less c = search needs
 
--- src/lib.rt:115:5
 loop-again : tie.Need-loop-again Inv-loop μ-loop
-loop-again c = ?
+loop-again c = (omega arith, rw carve-more (cc))
 
--- src/lib.rt:110:1
 returns : tie.Need-returns Inv-loop μ-loop
-returns c = ?
+returns c = let e : c .before .loop .j ≡ c .before .before .args .n = omega arith in cc
 
 pub carve-spec : {M : Type 1} → statement M
 carve-spec =

@@ -1,17 +1,16 @@
+-- `scene::no_vec` meets its contract: 0 by 0 is NaN. Assumes nothing.
+use Rattle.vec.specs.Vec.{vsplat}
+use Rattle.root.proofs.Nans.{zero-by-zero}
 use borrow.Author.Needs.{needs}
 use Rattle.scene.proofs.no_vec.Statement.{statement}
 use Rattle.scene.proofs.no_vec.Tie as tie
-use Rattle.scene.proofs.no_vec.Reads as reads
-use Rattle.scene.proofs.no_vec.Lts as lts
-use Rattle.vec.proofs.Vec3.splat.Reads as splat-reads
 
--- src/lib.rt:52:5
 splat-requires : tie.Need-splat-requires
 splat-requires c κs = search needs
 
--- src/lib.rt:49:1
 returns : tie.Need-returns
-returns c = ?
+unfolding vsplat
+returns c = rw (c .splat .ensures, zero-by-zero)
 
 pub no-vec-spec : {M : Type 1} → statement M
 no-vec-spec = tie.close (tie.spec splat-requires returns)

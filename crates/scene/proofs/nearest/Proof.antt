@@ -1,0 +1,55 @@
+-- `scene::nearest` meets its contract: the hit is the best of the pieces passed. Assumes nothing.
+use borrow.Author.Needs.{needs}
+use Prim.Native.Nat.{_≤_, _-_}
+use mathlib.Core.Path.{_≡_}
+use native.Mathlib.Omega.{arith}
+use Rattle.scene.specs.Model.{piecesFrom}
+use Rattle.scene.specs.Nearest.{nearest}
+use Rattle.scene.proofs.Lists.{nearest-none, nearest-more}
+use Rattle.scene.proofs.nearest.Statement.{statement}
+use Rattle.scene.proofs.nearest.Tie as tie
+
+abbrev Inv-loop : tie.InvT-loop
+Inv-loop ws fs r n p hit₀ j₀ hit j = (j ≤ n) × (hit ≡ nearest (piecesFrom ws fs r j) p hit₀)
+
+abbrev μ-loop : tie.MeasureT-loop
+μ-loop ws fs r n p hit₀ j₀ hit j = n - j
+
+loop-holds : tie.Need-loop-holds Inv-loop μ-loop
+loop-holds c = let a = c .args in (search needs, nearest-none (a .ws .now) (a .fs .now) (a .r) (a .p) (a .best))
+
+cast-nearer : tie.Need-cast-nearer Inv-loop μ-loop
+cast-nearer c = search needs
+
+add-nearer : tie.Need-add-nearer Inv-loop μ-loop
+add-nearer c = search needs
+
+nearer-requires : tie.Need-nearer-requires Inv-loop μ-loop
+nearer-requires c κs = search needs
+
+add-j : tie.Need-add-j Inv-loop μ-loop
+add-j c = search needs
+
+loop-less : tie.Need-loop-less Inv-loop μ-loop
+loop-less c = search needs
+
+loop-again : tie.Need-loop-again Inv-loop μ-loop
+loop-again c = (omega arith, rw nearest-more (cc))
+
+returns : tie.Need-returns Inv-loop μ-loop
+returns c = let e : c .before .loop .j ≡ c .before .before .args .n = omega arith in cc
+
+pub nearest-spec : {M : Type 1} → statement M
+nearest-spec =
+    tie.close
+    (tie.spec
+    Inv-loop
+    μ-loop
+    loop-holds
+    cast-nearer
+    add-nearer
+    nearer-requires
+    add-j
+    loop-less
+    loop-again
+    returns)
