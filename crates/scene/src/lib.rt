@@ -56,6 +56,7 @@ pub fn cutter_kind(ws: &[u32; 22288], c: usize) -> u32
     if c < 1024 {
         return ws[5904 + 16 * c];
     }
+    let _words: &[u32] = ws;
     0
 }
 
