@@ -217,7 +217,7 @@ pub fn add_piece(
 ) -> Added
     ensures { λ r. ⌜ AddsPiece before planes (now (ws .entry)) (now (fs .entry)) (now (aw .entry)) (now (af .entry)) bytes r (now (ws .exit)) ⌝ }
 {
-    let s = sound::solids(ws, fs);
+    let s = sound::judge_solids(ws, fs);
     let no = piece_number(before, planes, ws, s, aw, af, bytes);
     let count = count_of(planes, ws);
     if no == 0 {

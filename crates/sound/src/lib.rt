@@ -92,7 +92,7 @@ fn tally_one(planes: bool, materials: u32, t: Tally, h: Head) -> Tally
 }
 
 // n pieces from row r on.
-fn tally(ws: &[u32; 22288], fs: &[f32; 22288], planes: bool, r: u32, n: u32) -> Tally
+fn tally_rows(ws: &[u32; 22288], fs: &[f32; 22288], planes: bool, r: u32, n: u32) -> Tally
     ensures { λ t. ⌜ t ≡ tally planes (countMaterials (now (ws .entry))) noTally (headsFrom (now (ws .entry)) (now (fs .entry)) r n) ⌝ }
 {
     let materials = ws[0];
@@ -160,7 +160,7 @@ pub fn objects_number(ws: &[u32; 22288], fs: &[f32; 22288]) -> u32
     if !counts_ok(ws) {
         return 2;
     }
-    let t = tally(ws, fs, false, 113, ws[3]);
+    let t = tally_rows(ws, fs, false, 113, ws[3]);
     if !rules::both(t.placed, t.used <= 1024) {
         return rules::lower(t.number, 2);
     }
@@ -168,7 +168,7 @@ pub fn objects_number(ws: &[u32; 22288], fs: &[f32; 22288]) -> u32
 }
 
 // Planes and objects with their cutters.
-pub fn solids(ws: &[u32; 22288], fs: &[f32; 22288]) -> Solids
+pub fn judge_solids(ws: &[u32; 22288], fs: &[f32; 22288]) -> Solids
     ensures { λ r. ⌜ r ≡ solidsOf (now (ws .entry)) (now (fs .entry)) ⌝ }
 {
     if !counts_ok(ws) {
@@ -178,8 +178,8 @@ pub fn solids(ws: &[u32; 22288], fs: &[f32; 22288]) -> Solids
             objects: 0,
         };
     }
-    let p = tally(ws, fs, true, 65, ws[1]);
-    let o = tally(ws, fs, false, 113, ws[3]);
+    let p = tally_rows(ws, fs, true, 65, ws[1]);
+    let o = tally_rows(ws, fs, false, 113, ws[3]);
     let own = rules::lower(p.number, o.number);
     let placed = rules::both(
         p.placed,
