@@ -1,6 +1,6 @@
 // Tests of a plan: which number it gets for the sections that a call reads.
 ghost use mathlib.Core.Path.{_≡_};
-ghost use mathlib.Core.Bool.{true, false, Bool·beq};
+ghost use mathlib.Core.Bool.{true, false, cond, Bool·beq};
 ghost use Rattle.sound.specs.Sound.{countsOk, ownNumber, placeOk, usedWith, tallyOne, tally, noTally, headsFrom, cutterNumber, cuttersNumber, pieceCutters, piecesCutters, objectsNumber, solidsCutters, solidsOf};
 ghost use Rattle.scene.specs.Model.{countMaterials};
 use scene::Head;
@@ -153,47 +153,29 @@ fn pieces_cutters(ws: &[u32; 22288], fs: &[f32; 22288], r: u32, n: u32) -> u32
     least
 }
 
+// The same, where every place is right.
+fn placed_cutters(ws: &[u32; 22288], fs: &[f32; 22288], placed: bool, r: u32, n: u32) -> u32
+    ensures { λ m. ⌜ m ≡ cond placed (piecesCutters (now (ws .entry)) (now (fs .entry)) r n) 2 ⌝ }
+{
+    if placed {
+        return pieces_cutters(ws, fs, r, n);
+    }
+    2
+}
+
 // The objects with their cutters.
 pub fn objects_number(ws: &[u32; 22288], fs: &[f32; 22288]) -> u32
     ensures { λ r. ⌜ r ≡ objectsNumber (now (ws .entry)) (now (fs .entry)) ⌝ }
 {
-    if !counts_ok(ws) {
-        return 2;
+    if counts_ok(ws) {
+        let t = tally_rows(ws, fs, false, 113, ws[3]);
+        let placed = rules::both(t.placed, t.used <= 1024);
+        return rules::lower(t.number, placed_cutters(ws, fs, placed, 113, ws[3]));
     }
-    let t = tally_rows(ws, fs, false, 113, ws[3]);
-    if !rules::both(t.placed, t.used <= 1024) {
-        return rules::lower(t.number, 2);
-    }
-    rules::lower(t.number, pieces_cutters(ws, fs, 113, ws[3]))
+    2
 }
 
-// Planes and objects with their cutters.
-pub fn judge_solids(ws: &[u32; 22288], fs: &[f32; 22288]) -> Solids
-    ensures { λ r. ⌜ r ≡ solidsOf (now (ws .entry)) (now (fs .entry)) ⌝ }
-{
-    if !counts_ok(ws) {
-        return Solids {
-            number: 2,
-            planes: 0,
-            objects: 0,
-        };
-    }
-    let p = tally_rows(ws, fs, true, 65, ws[1]);
-    let o = tally_rows(ws, fs, false, 113, ws[3]);
-    let own = rules::lower(p.number, o.number);
-    let placed = rules::both(
-        p.placed,
-        rules::both(o.placed, p.used as u64 + o.used as u64 <= 1024),
-    );
-    let cut = solids_cutters(ws, fs, placed);
-    Solids {
-        number: rules::lower(own, cut),
-        planes: p.used,
-        objects: o.used,
-    }
-}
-
-// The cutters' number, where every place is right.
+// The cutters of planes and objects, where every place is right.
 fn solids_cutters(ws: &[u32; 22288], fs: &[f32; 22288], placed: bool) -> u32
     ensures { λ r. ⌜ r ≡ solidsCutters (now (ws .entry)) (now (fs .entry)) placed ⌝ }
 {
@@ -204,4 +186,29 @@ fn solids_cutters(ws: &[u32; 22288], fs: &[f32; 22288], placed: bool) -> u32
         );
     }
     2
+}
+
+// Planes and objects with their cutters.
+pub fn judge_solids(ws: &[u32; 22288], fs: &[f32; 22288]) -> Solids
+    ensures { λ r. ⌜ r ≡ solidsOf (now (ws .entry)) (now (fs .entry)) ⌝ }
+{
+    if counts_ok(ws) {
+        let p = tally_rows(ws, fs, true, 65, ws[1]);
+        let o = tally_rows(ws, fs, false, 113, ws[3]);
+        let fits = p.used as u64 + o.used as u64 <= 1024;
+        let placed = rules::both(p.placed, rules::both(o.placed, fits));
+        return Solids {
+            number: rules::lower(
+                rules::lower(p.number, o.number),
+                solids_cutters(ws, fs, placed),
+            ),
+            planes: p.used,
+            objects: o.used,
+        };
+    }
+    Solids {
+        number: 2,
+        planes: 0,
+        objects: 0,
+    }
 }

@@ -1,51 +1,47 @@
+-- `sound::cutters_number` meets its contract: the least so far is that of the cutters passed. Assumes nothing.
+use borrow.Author.Needs.{needs}
+use Prim.Native.Nat.{_≤_, _-_}
+use mathlib.Core.Path.{_≡_}
+use native.Mathlib.Omega.{arith}
+use Rattle.words.specs.Lists.{listFrom}
+use Rattle.sound.specs.Sound.{lowest, cutterNumber, cuttersNumber}
+use Rattle.sound.proofs.Lists.{lowest-none, lowest-more}
 use Rattle.sound.proofs.cutters_number.Statement.{statement}
 use Rattle.sound.proofs.cutters_number.Tie as tie
-use Rattle.sound.proofs.cutters_number.Reads as reads
-use Rattle.sound.proofs.cutters_number.Lts as lts
-use Rattle.rules.proofs.lower.Reads as lower-reads
-use Rattle.sound.proofs.cutter_number.Reads as cutter-number-reads
 
 abbrev Inv-loop : tie.InvT-loop
-Inv-loop ws fs place n least₀ j₀ least j = ?
+Inv-loop ws fs place n least₀ j₀ least j = (j ≤ n) × (least ≡ lowest 0 (listFrom (cutterNumber ws fs) place j))
 
 abbrev μ-loop : tie.MeasureT-loop
-μ-loop ws fs place n least₀ j₀ least j = ?
+μ-loop ws fs place n least₀ j₀ least j = n - j
 
--- src/lib.rt:129:5
 loop-holds : tie.Need-loop-holds Inv-loop μ-loop
-loop-holds c = ?
+loop-holds c = let a = c .args in (search needs, lowest-none (cutterNumber (a .ws .now) (a .fs .now)) 0 (a .place))
 
--- src/lib.rt:130:76
 cast-cutter-number : tie.Need-cast-cutter-number Inv-loop μ-loop
-cast-cutter-number c = ?
+cast-cutter-number c = search needs
 
--- src/lib.rt:130:59
 add-cutter-number : tie.Need-add-cutter-number Inv-loop μ-loop
-add-cutter-number c = ?
+add-cutter-number c = search needs
 
--- src/lib.rt:130:37
 cutter-number-requires : tie.Need-cutter-number-requires Inv-loop μ-loop
-cutter-number-requires c κs = ?
+cutter-number-requires c κs = search needs
 
--- src/lib.rt:130:9
 lower-requires : tie.Need-lower-requires Inv-loop μ-loop
-lower-requires c κs = ?
+lower-requires c κs = search needs
 
--- src/lib.rt:131:9
 add-j : tie.Need-add-j Inv-loop μ-loop
-add-j c = ?
+add-j c = search needs
 
--- src/lib.rt:129:5
 loop-less : tie.Need-loop-less Inv-loop μ-loop
-loop-less c = ?
+loop-less c = search needs
 
--- src/lib.rt:129:5
 loop-again : tie.Need-loop-again Inv-loop μ-loop
-loop-again c = ?
+loop-again c = (omega arith, rw lowest-more (cc))
 
--- src/lib.rt:124:1
 returns : tie.Need-returns Inv-loop μ-loop
-returns c = ?
+unfolding cuttersNumber
+returns c = let e : c .before .loop .j ≡ c .before .before .args .n = omega arith in cc
 
 pub cutters-number-spec : {M : Type 1} → statement M
 cutters-number-spec =

@@ -1,20 +1,19 @@
+-- `sound::place_ok` meets its contract. Assumes nothing.
+use Rattle.sound.specs.Sound.{placeOk}
 use borrow.Author.Needs.{needs}
 use Rattle.sound.proofs.place_ok.Statement.{statement}
 use Rattle.sound.proofs.place_ok.Tie as tie
-use Rattle.sound.proofs.place_ok.Reads as reads
-use Rattle.sound.proofs.place_ok.Lts as lts
 
--- src/lib.rt:62:16
 add-result : tie.Need-add-result
 add-result c = search needs
 
--- src/lib.rt:62:9
 returns : tie.Need-returns
-returns c = ?
+unfolding placeOk
+returns c = simp (c .if1 .taken)
 
--- src/lib.rt:58:1
 returns-2 : tie.Need-returns-2
-returns-2 c = ?
+unfolding placeOk
+returns-2 c = simp (c .if1 .left)
 
 pub place-ok-spec : {M : Type 1} → statement M
 place-ok-spec = tie.close (tie.spec add-result returns returns-2)

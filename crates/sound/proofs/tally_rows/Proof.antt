@@ -1,55 +1,49 @@
+-- `sound::tally_rows` meets its contract: the tally so far is that of the pieces passed. Assumes nothing.
+use borrow.Author.Needs.{needs}
+use Prim.Native.Nat.{_≤_, _-_}
+use mathlib.Core.Path.{_≡_}
+use native.Mathlib.Omega.{arith}
+use Rattle.scene.specs.Model.{countMaterials}
+use Rattle.sound.specs.Sound.{tally, noTally, headsFrom}
+use Rattle.sound.proofs.Lists.{tally-none, tally-more}
 use Rattle.sound.proofs.tally_rows.Statement.{statement}
 use Rattle.sound.proofs.tally_rows.Tie as tie
-use Rattle.sound.proofs.tally_rows.Reads as reads
-use Rattle.sound.proofs.tally_rows.Lts as lts
-use Rattle.scene.proofs.head_at.Reads as head-at-reads
-use Rattle.sound.proofs.tally_one.Reads as tally-one-reads
 
 abbrev Inv-loop : tie.InvT-loop
-Inv-loop ws fs planes r n materials t₀ j₀ t j = ?
+Inv-loop ws fs planes r n materials t₀ j₀ t j = (materials ≡ countMaterials ws) × (j ≤ n) × (t ≡ tally planes (countMaterials ws) noTally (headsFrom ws fs r j))
 
 abbrev μ-loop : tie.MeasureT-loop
-μ-loop ws fs planes r n materials t₀ j₀ t j = ?
+μ-loop ws fs planes r n materials t₀ j₀ t j = n - j
 
--- src/lib.rt:98:21
 element-copy-out-materials : tie.Need-element-copy-out-materials Inv-loop μ-loop
-element-copy-out-materials c = ?
+element-copy-out-materials c = search needs
 
--- src/lib.rt:105:5
 loop-holds : tie.Need-loop-holds Inv-loop μ-loop
-loop-holds c = ?
+loop-holds c = let a = c .before .args in (search needs, search needs, tally-none (a .planes) (countMaterials (a .ws .now)) noTally (a .ws .now) (a .fs .now) (a .r))
 
--- src/lib.rt:110:49
 cast-head-at : tie.Need-cast-head-at Inv-loop μ-loop
-cast-head-at c = ?
+cast-head-at c = search needs
 
--- src/lib.rt:110:36
 add-head-at : tie.Need-add-head-at Inv-loop μ-loop
-add-head-at c = ?
+add-head-at c = search needs
 
--- src/lib.rt:110:13
 head-at-requires : tie.Need-head-at-requires Inv-loop μ-loop
-head-at-requires c κs = ?
+head-at-requires c κs = search needs
 
--- src/lib.rt:106:9
 tally-one-requires : tie.Need-tally-one-requires Inv-loop μ-loop
-tally-one-requires c κs = ?
+tally-one-requires c κs = search needs
 
--- src/lib.rt:112:9
 add-j : tie.Need-add-j Inv-loop μ-loop
-add-j c = ?
+add-j c = search needs
 
--- src/lib.rt:105:5
 loop-less : tie.Need-loop-less Inv-loop μ-loop
-loop-less c = ?
+loop-less c = search needs
 
--- src/lib.rt:105:5
 loop-again : tie.Need-loop-again Inv-loop μ-loop
-loop-again c = ?
+loop-again c = (search needs, omega arith, rw tally-more (cc))
 
--- src/lib.rt:95:1
 returns : tie.Need-returns Inv-loop μ-loop
-returns c = ?
+returns c = let e : c .before .loop .j ≡ c .before .before .before .args .n = omega arith in cc
 
 pub tally-rows-spec : {M : Type 1} → statement M
 tally-rows-spec =

@@ -1,24 +1,24 @@
+-- `sound::used_with` meets its contract. Assumes nothing.
+use borrow.Author.Tests.{le-leb, lt-leb}
+use Rattle.sound.specs.Sound.{usedWith}
 use borrow.Author.Needs.{needs}
 use Rattle.sound.proofs.used_with.Statement.{statement}
 use Rattle.sound.proofs.used_with.Tie as tie
-use Rattle.sound.proofs.used_with.Reads as reads
-use Rattle.sound.proofs.used_with.Lts as lts
 
--- src/lib.rt:73:20
 add-result : tie.Need-add-result
 add-result c = search needs
 
--- src/lib.rt:73:13
 returns : tie.Need-returns
-returns c = ?
+unfolding usedWith
+returns c = simp (le-leb _ _ (c .before .if1 .taken), le-leb _ _ (c .if2 .taken))
 
--- src/lib.rt:68:1
 returns-2 : tie.Need-returns-2
-returns-2 c = ?
+unfolding usedWith
+returns-2 c = simp (le-leb _ _ (c .before .if1 .taken), lt-leb _ _ (c .if2 .left))
 
--- src/lib.rt:68:1
 returns-3 : tie.Need-returns-3
-returns-3 c = ?
+unfolding usedWith
+returns-3 c = simp (lt-leb _ _ (c .if1 .left))
 
 pub used-with-spec : {M : Type 1} → statement M
 used-with-spec = tie.close (tie.spec add-result returns returns-2 returns-3)
