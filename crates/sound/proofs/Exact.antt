@@ -18,6 +18,7 @@ use Rattle.sound.specs.declared.Tally.{Tally}
 use Rattle.sound.specs.declared.Solids.{Solids}
 use Rattle.sound.specs.Sound.{countsOk, ownNumber, placeOk, usedWith, tallyOne, tally, noTally, headsFrom, piecesCutters, tallyPlanes, tallyObjects, objectsNumber, solidsCutters, solidsPlaced, solidsOf}
 use Rattle.sound.specs.Exact.{PieceOk, cuttersBefore, PlaceIs, PiecesOk, CountsOk, SoundObjects, SoundSolids}
+use Rattle.sound.proofs.Lists.{tally-snoc}
 use Rattle.sound.proofs.Numbers.{cond-zero, lower-zero, own-exact, Each, each-none, each-less, each-last, each-more, each-exact, pieces-cutters}
 
 -- ---- one piece: its place, and the places used with it
@@ -41,11 +42,6 @@ used-before u n h k = go (decLe u 1024)
     go : Dec (u ≤ 1024) → u ≤ 1024
     go (yes l) = l
     go (no l) = absurd (l (omega (arith, used-over u n h (omega arith))))
-
-tally-snoc : (planes : Bool) (m : ℕ) (t : Tally) (hs : List Head) (h : Head) → tally planes m t (hs ++ (h ∷ [])) ≡ tallyOne planes m (tally planes m t hs) h
-unfolding tally
-tally-snoc planes m t [] h = refl
-tally-snoc planes m t (g ∷ hs) h = tally-snoc planes m (tallyOne planes m t g) hs h
 
 -- ---- the first n pieces from row r on
 module _ (planes : Bool) (w : List ℕ) (f : List Float) (r : ℕ) where

@@ -1,8 +1,8 @@
--- `viewer::settled` meets its contract. Assumes nothing.
-use Rattle.viewer.specs.Replies.{settled}
+-- `reply::settled` meets its contract. Assumes nothing.
+use Rattle.reply.specs.Replies.{settled}
 use borrow.Author.Needs.{needs}
-use Rattle.viewer.proofs.settled.Statement.{statement}
-use Rattle.viewer.proofs.settled.Tie as tie
+use Rattle.reply.proofs.settled.Statement.{statement}
+use Rattle.reply.proofs.settled.Tie as tie
 
 returns : tie.Need-returns
 unfolding settled

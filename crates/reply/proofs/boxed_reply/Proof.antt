@@ -1,8 +1,8 @@
--- `viewer::boxed_reply` meets its contract. Assumes nothing.
-use Rattle.viewer.specs.Replies.{boxedReply}
+-- `reply::boxed_reply` meets its contract. Assumes nothing.
+use Rattle.reply.specs.Replies.{boxedReply}
 use borrow.Author.Needs.{needs}
-use Rattle.viewer.proofs.boxed_reply.Statement.{statement}
-use Rattle.viewer.proofs.boxed_reply.Tie as tie
+use Rattle.reply.proofs.boxed_reply.Statement.{statement}
+use Rattle.reply.proofs.boxed_reply.Tie as tie
 
 enum-known-a : tie.Need-enum-known-a
 enum-known-a c = search needs

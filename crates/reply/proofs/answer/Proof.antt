@@ -1,9 +1,9 @@
--- `viewer::answer` meets its contract. Assumes nothing.
+-- `reply::answer` meets its contract. Assumes nothing.
 use mathlib.Core.Path.{ap, _∙_}
-use Rattle.viewer.specs.Replies.{settled}
+use Rattle.reply.specs.Replies.{settled}
 use borrow.Author.Needs.{needs}
-use Rattle.viewer.proofs.answer.Statement.{statement}
-use Rattle.viewer.proofs.answer.Tie as tie
+use Rattle.reply.proofs.answer.Statement.{statement}
+use Rattle.reply.proofs.answer.Tie as tie
 
 settled-requires : tie.Need-settled-requires
 settled-requires c κs = search needs

@@ -1,8 +1,8 @@
--- `viewer::vec_at` meets its contract. Assumes nothing.
-use Rattle.viewer.specs.Args.{vecAt}
+-- `reply::vec_at` meets its contract. Assumes nothing.
+use Rattle.reply.specs.Args.{vecAt}
 use borrow.Author.Needs.{needs}
-use Rattle.viewer.proofs.vec_at.Statement.{statement}
-use Rattle.viewer.proofs.vec_at.Tie as tie
+use Rattle.reply.proofs.vec_at.Statement.{statement}
+use Rattle.reply.proofs.vec_at.Tie as tie
 
 float-at-requires : tie.Need-float-at-requires
 float-at-requires c κs = search needs

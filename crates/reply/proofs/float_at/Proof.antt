@@ -1,8 +1,8 @@
--- `viewer::float_at` meets its contract. Assumes nothing.
-use Rattle.viewer.specs.Args.{floatAt}
+-- `reply::float_at` meets its contract. Assumes nothing.
+use Rattle.reply.specs.Args.{floatAt}
 use borrow.Author.Needs.{needs}
-use Rattle.viewer.proofs.float_at.Statement.{statement}
-use Rattle.viewer.proofs.float_at.Tie as tie
+use Rattle.reply.proofs.float_at.Statement.{statement}
+use Rattle.reply.proofs.float_at.Tie as tie
 
 word-requires : tie.Need-word-requires
 word-requires c κs = search needs

@@ -1,8 +1,8 @@
--- `viewer::scalar_reply` meets its contract. Assumes nothing.
-use Rattle.viewer.specs.Replies.{scalarReply}
+-- `reply::scalar_reply` meets its contract. Assumes nothing.
+use Rattle.reply.specs.Replies.{scalarReply}
 use borrow.Author.Needs.{needs}
-use Rattle.viewer.proofs.scalar_reply.Statement.{statement}
-use Rattle.viewer.proofs.scalar_reply.Tie as tie
+use Rattle.reply.proofs.scalar_reply.Statement.{statement}
+use Rattle.reply.proofs.scalar_reply.Tie as tie
 
 enum-known-a : tie.Need-enum-known-a
 enum-known-a c = search needs

@@ -14,7 +14,7 @@ use Rattle.bemitondry.specs.declared.Scalar.{Scalar}
 use Rattle.bemitondry.specs.declared.Scalar.the-variants as scalar
 use Rattle.bemitondry.specs.declared.Boxed.{Boxed}
 use Rattle.bemitondry.specs.declared.Boxed.the-variants as boxed
-use Rattle.viewer.specs.declared.Reply.{Reply}
+use Rattle.reply.specs.declared.Reply.{Reply}
 
 unfoldable pub refusedReply : ℕ → Reply
 refusedReply n = record { number = n; words = replicate 16 0 }
