@@ -14,6 +14,9 @@ use Rattle.bemitondry.specs.declared.Scalar.{Scalar}
 use Rattle.bemitondry.specs.declared.Scalar.the-variants as scalar
 use Rattle.bemitondry.specs.declared.Boxed.{Boxed}
 use Rattle.bemitondry.specs.declared.Boxed.the-variants as boxed
+use Rattle.scene.specs.declared.DistHit.{DistHit}
+use Rattle.bemitondry.specs.declared.Found.{Found}
+use Rattle.bemitondry.specs.declared.Found.the-variants as found
 use Rattle.reply.specs.declared.Reply.{Reply}
 
 unfoldable pub refusedReply : ℕ → Reply
@@ -33,6 +36,11 @@ boxedReply (boxed.Is b) =
       number = 0;
       words = bits (b .lo .x) ∷ bits (b .lo .y) ∷ bits (b .lo .z) ∷ bits (b .hi .x) ∷ bits (b .hi .y) ∷ bits (b .hi .z) ∷ 0 ∷ 0 ∷ 0 ∷ 0 ∷ 0 ∷ 0 ∷ 0 ∷ 0 ∷ 0 ∷ 0 ∷ [];
     }
+
+-- distance, material, nodes popped, objects evaluated
+unfoldable pub foundReply : Found → Reply
+foundReply (found.Refused n) = refusedReply n
+foundReply (found.Is h popped evaluated) = record { number = 0; words = bits (h .d) ∷ h .mat ∷ popped ∷ evaluated ∷ 0 ∷ 0 ∷ 0 ∷ 0 ∷ 0 ∷ 0 ∷ 0 ∷ 0 ∷ 0 ∷ 0 ∷ 0 ∷ 0 ∷ [] }
 
 -- where another table is short, the lower of 2 and the number so far
 unfoldable pub settled : Bool → Reply → Reply

@@ -3,9 +3,10 @@ ghost use mathlib.Core.Path.{_≡_};
 ghost use Prim.Native.Nat.{_+_};
 ghost use lib.ListN.{length};
 ghost use lib.Dec.{leb};
-ghost use Rattle.reply.specs.Replies.{refusedReply, scalarReply, boxedReply, settled, Sent};
+ghost use Rattle.reply.specs.Replies.{refusedReply, scalarReply, boxedReply, foundReply, settled, Sent};
 ghost use Rattle.reply.specs.Args.{floatAt, vecAt};
 use bemitondry::Boxed;
+use bemitondry::Found;
 use bemitondry::Scalar;
 use vec::Vec3;
 
@@ -50,6 +51,35 @@ pub fn boxed_reply(a: Boxed) -> Reply
                 num::bits(b.hi.x),
                 num::bits(b.hi.y),
                 num::bits(b.hi.z),
+                0,
+                0,
+                0,
+                0,
+                0,
+                0,
+                0,
+                0,
+                0,
+                0,
+            ],
+        },
+    }
+}
+
+pub fn found_reply(a: Found) -> Reply
+    ensures { λ r. ⌜ r ≡ foundReply a ⌝ }
+{
+    match a {
+        Found::Refused(n) => refused(n),
+        Found::Is(h, popped, evaluated) => Reply {
+            number: 0,
+            words: [
+                num::bits(h.d),
+                h.mat,
+                popped,
+                evaluated,
+                0,
+                0,
                 0,
                 0,
                 0,
