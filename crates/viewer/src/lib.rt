@@ -4,6 +4,7 @@ ghost use lib.ListN.{length};
 ghost use lib.Dec.{leb};
 ghost use Rattle.reply.specs.Replies.{settled, Sent};
 ghost use Rattle.viewer.specs.Calls.{rootReply, acosReply, primDistReply, primBoundsReply};
+ghost use Rattle.lent.specs.Queries.{queryReply, distMatReply};
 use reply::Reply;
 
 fn root_reply(args: &[u8]) -> Reply
@@ -81,4 +82,35 @@ pub extern "C" fn viewer_prim_bounds(args: &[u8], out: &mut [u8]) -> u32
     ensures { λ n. ⌜ Sent (settled (leb 64 (length (now (out .entry)))) (primBoundsReply (now (args .entry)))) (now (out .entry)) n (now (out .exit)) ⌝ }
 {
     reply::answer(prim_bounds_reply(args), out)
+}
+
+#[no_mangle]
+pub extern "C" fn viewer_query(
+    plan: &[u8],
+    nodes: &[u8],
+    order: &[u8],
+    tree: u32,
+    args: &[u8],
+    out: &mut [u8],
+) -> u32
+    ensures { λ n. ⌜ Sent (settled (leb 64 (length (now (out .entry)))) (queryReply (now (plan .entry)) (length (now (nodes .entry))) (length (now (order .entry))) tree (now (args .entry)))) (now (out .entry)) n (now (out .exit)) ⌝ }
+{
+    reply::answer(lent::query(plan, nodes.len(), order.len(), tree, args), out)
+}
+
+#[no_mangle]
+pub extern "C" fn viewer_dist_mat(
+    plan: &[u8],
+    nodes: &[u8],
+    order: &[u8],
+    tree: u32,
+    args: &[u8],
+    out: &mut [u8],
+) -> u32
+    ensures { λ n. ⌜ Sent (settled (leb 64 (length (now (out .entry)))) (distMatReply (now (plan .entry)) (length (now (nodes .entry))) (length (now (order .entry))) tree (now (args .entry)))) (now (out .entry)) n (now (out .exit)) ⌝ }
+{
+    reply::answer(
+        lent::dist_mat(plan, nodes.len(), order.len(), tree, args),
+        out,
+    )
 }
