@@ -2,6 +2,7 @@
 use mathlib.Core.Path.{_≡_, refl}
 use mathlib.Core.List.{List, [], _∷_}
 use Prim.Native.Nat.{ℕ}
+use lib.ListN.{replicate}
 use lib.IntN.{ℤ, pos, negsuc}
 use lib.Ieee.{Float, binary32, ofInt, ofBits, neg, add, sub, mul, div, lt, eq}
 use Rattle.root.specs.Root.{rootOf}
@@ -12,6 +13,12 @@ use Rattle.vec.specs.declared.Vec3.{Vec3}
 use Rattle.vec.specs.Vec.{vsplat, vadd, vsub, vscale, vdot, vlength, vmax, vabs}
 use Rattle.sdf.specs.declared.Shape.{Shape}
 use Rattle.sdf.specs.declared.Shape.the-variants.{Sphere, RoundBox, Plane, Capsule, Torus, Cylinder, Cone}
+use Rattle.words.specs.Lists.{listFrom}
+use Rattle.words.specs.Words.{floatsOf}
+use Rattle.scene.specs.declared.Head.{Head}
+use Rattle.scene.specs.declared.DistHit.{DistHit}
+use Rattle.scene.specs.Model.{Piece, piecesFrom}
+use Rattle.scene.specs.Nearest.{cutBy, carve, pieceDist, nearest, listHit, distMatList}
 use Rattle.sdf.specs.Shapes.{sphere, roundBox, plane, capsule, torus, beyond, cylinderSquare, cylinderBody, cylinder, coneEnd, coneFoot, coneSign, coneAt, coneBody, cone, distOf}
 
 -- what a row works out and what it should be: the floats, then the whole numbers
@@ -39,6 +46,17 @@ floatRow fs ws = record { floats = fs; numbers = []; wantedFloats = ws; wantedNu
 abbrev distRow : Shape → Vec3 → ℤ → Row
 distRow s p z = floatRow (distOf s p ∷ []) (whole z ∷ [])
 
+-- a piece of this shape alone
+abbrev plainHead : Shape → Head
+plainHead s = record { material = 0; blend = f0; cutters = 0; kind = 0; shape = s; place = 0 }
+
+abbrev hitRow : DistHit → Float → ℕ → Row
+hitRow h d mat = record { floats = h .d ∷ []; numbers = h .mat ∷ []; wantedFloats = d ∷ []; wantedNumbers = mat ∷ [] }
+
+-- "A table all of whose words are 0 is the empty plan"
+abbrev emptyPlan : List ℕ
+emptyPlan = replicate 22288 0
+
 abbrev pub rows : List Row
 rows =
     -- P1 root of 0.25 is 0.5
@@ -58,8 +76,12 @@ rows =
     ∷ distRow (Cylinder (at 0 0 0) (at 0 2 0) f1) (at 0 5 0) (pos 3)
     -- P8 cone 0 to (0,2,0), radii 1 and 0, from (0,3,0): 1
     ∷ distRow (Cone (at 0 0 0) (at 0 2 0) f1 f0) (at 0 3 0) (pos 1)
+    -- P9 sphere r 2 less sphere r 1, both at 0, from 0: 1
+    ∷ floatRow (pieceDist (record { head = plainHead (Sphere (at 0 0 0) (whole (pos 2))); cuts = Sphere (at 0 0 0) f1 ∷ [] }) (at 0 0 0) ∷ []) (f1 ∷ [])
+    -- P10 empty plan: f32::MAX, 0
+    ∷ hitRow (distMatList emptyPlan (floatsOf emptyPlan 22288) (at 0 0 0)) (ofBits binary32 0x7f7f_ffff) 0
     ∷ []
 
 pub rows-hold : Holds rows
-unfolding whole ofInt ofBits neg add sub mul div lt eq rootOf fmin fmax clampOf absOf signumOf vsplat vadd vsub vscale vdot vlength vmax vabs sphere roundBox plane capsule torus beyond cylinderSquare cylinderBody cylinder coneEnd coneFoot coneSign coneAt coneBody cone distOf
-rows-hold = (refl, (refl, (refl, (refl, (refl, (refl, (refl, (refl, (refl, (refl, (refl, (refl, (refl, (refl, (refl, (refl, (refl, (refl, tt))))))))))))))))))
+unfolding whole ofInt ofBits neg add sub mul div lt eq rootOf fmin fmax clampOf absOf signumOf vsplat vadd vsub vscale vdot vlength vmax vabs sphere roundBox plane capsule torus beyond cylinderSquare cylinderBody cylinder coneEnd coneFoot coneSign coneAt coneBody cone distOf cutBy carve pieceDist piecesFrom nearest listHit distMatList listFrom
+rows-hold = (refl, (refl, (refl, (refl, (refl, (refl, (refl, (refl, (refl, (refl, (refl, (refl, (refl, (refl, (refl, (refl, (refl, (refl, (refl, (refl, (refl, (refl, tt))))))))))))))))))))))
