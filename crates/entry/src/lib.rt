@@ -149,13 +149,17 @@ fn cutter_words(aw: &[u32], r: u32) -> [u32; 16]
 fn put_row(ws: &mut [u32; 22288], r: usize, rec: &[u32; 16])
     ensures { λ _. ⌜ now (ws .exit) ≡ sets (now (ws .entry)) (16 * r) (now (rec .entry)) ⌝ }
 {
+    // Only as a slice does a table tell the proof its length.
+    let _rec: &[u32] = rec;
     if r < 1393 {
         let mut j: usize = 0;
         while j < 16 {
             ws[16 * r + j] = rec[j];
             j += 1;
         }
+        return;
     }
+    let _words: &[u32] = ws;
 }
 
 // The first n cutters of the arguments, from a place on.
@@ -199,9 +203,9 @@ fn with_piece(planes: bool, ws: &mut [u32; 22288], aw: &[u32], place: u32)
     put_row(ws, row_of(planes) as usize + count as usize, &rec);
     if planes {
         ws[1] = one_more(count);
-    } else {
-        ws[3] = one_more(count);
+        return;
     }
+    ws[3] = one_more(count);
 }
 
 // A plane or an object with its cutters: all enters, or nothing changes. `before` is a number that applies already, `fs` the plan seen as
@@ -222,6 +226,7 @@ pub fn add_piece(
     let count = count_of(planes, ws);
     if no == 0 {
         with_piece(planes, ws, aw, new_place(planes, s, args::word_of(aw, 2)));
+        return added_of(no, count);
     }
     added_of(no, count)
 }
@@ -310,6 +315,7 @@ pub fn add_material(no: u32, ws: &mut [u32; 22288], aw: &[u32]) -> Added
     let n = record_number(no, ws, count, 64);
     if n == 0 {
         with_material(ws, aw);
+        return added_of(n, count);
     }
     added_of(n, count)
 }
@@ -321,6 +327,7 @@ pub fn add_light(no: u32, ws: &mut [u32; 22288], aw: &[u32]) -> Added
     let n = record_number(no, ws, count, 16);
     if n == 0 {
         with_light(ws, aw);
+        return added_of(n, count);
     }
     added_of(n, count)
 }
