@@ -1,8 +1,9 @@
 // The public calls: each tests what it is given, and answers or refuses by document 01's number.
 ghost use mathlib.Core.Path.{_≡_};
-ghost use Rattle.bemitondry.specs.Answers.{scalarOf, boxedOf};
-ghost use Rattle.bemitondry.specs.Calls.{rootAnswer, acosAnswer, primDistAnswer, primBoundsAnswer};
+ghost use Rattle.bemitondry.specs.Answers.{scalarOf, boxedOf, foundOf};
+ghost use Rattle.bemitondry.specs.Calls.{rootAnswer, acosAnswer, primDistAnswer, primBoundsAnswer, queryAnswer, distMatAnswer};
 ghost use Rattle.rules.specs.Prims.{shapeOf};
+use scene::DistHit;
 use sdf::Aabb;
 use sdf::Bounds;
 use vec::Vec3;
@@ -10,6 +11,12 @@ use vec::Vec3;
 pub enum Scalar {
     Refused(u32),
     Is(f32),
+}
+
+// A distance with its material, nodes popped and objects evaluated.
+pub enum Found {
+    Refused(u32),
+    Is(DistHit, u32, u32),
 }
 
 pub enum Boxed {
@@ -75,4 +82,48 @@ pub fn prim_bounds(kind: u32, a: Vec3, b: Vec3, u: f32, v: f32) -> Boxed
 {
     let s = rules::shape_of(kind, a, b, u, v);
     boxed_of(rules::prim_number(kind, s), s.bounds())
+}
+
+// The nearest object by the plain list, from a bound with any material word. `before` is a number that applies already.
+pub fn query_list(
+    before: u32,
+    ws: &[u32; 22288],
+    fs: &[f32; 22288],
+    p: Vec3,
+    bound: f32,
+    mat: u32,
+) -> Found
+    ensures { λ r. ⌜ r ≡ queryAnswer before (now (ws .entry)) (now (fs .entry)) p bound mat ⌝ }
+{
+    let given = rules::both(
+        rules::within(p, 200000.0),
+        num::magnitude(bound, 3.4028235e38),
+    );
+    let n = rules::lower(
+        before,
+        rules::lower(rules::unless(1, given), sound::objects_number(ws, fs)),
+    );
+    if n == 0 {
+        return Found::Is(
+            scene::query_linear(ws, fs, p, DistHit { d: bound, mat }),
+            0,
+            ws[3],
+        );
+    }
+    Found::Refused(n)
+}
+
+// The source's `dist_mat` by the plain list: planes, then objects.
+pub fn dist_mat_list(before: u32, ws: &[u32; 22288], fs: &[f32; 22288], p: Vec3) -> Found
+    ensures { λ r. ⌜ r ≡ distMatAnswer before (now (ws .entry)) (now (fs .entry)) p ⌝ }
+{
+    let s = sound::judge_solids(ws, fs);
+    let n = rules::lower(
+        before,
+        rules::lower(rules::unless(1, rules::within(p, 200000.0)), s.number),
+    );
+    if n == 0 {
+        return Found::Is(scene::dist_mat_list(ws, fs, p), 0, 0);
+    }
+    Found::Refused(n)
 }

@@ -26,7 +26,7 @@ module _ (g : ℕ → ℕ) (n a : ℕ) where
   pub lowest-more : (j : ℕ) → lowest n (listFrom g a (j + 1)) ≡ lower (lowest n (listFrom g a j)) (g (a + j))
   lowest-more j = rw (add-one, from-snoc g a j, lowest-snoc)
 
-tally-snoc : (planes : Bool) (m : ℕ) (t : Tally) (hs : List Head) (h : Head) → tally planes m t (hs ++ (h ∷ [])) ≡ tallyOne planes m (tally planes m t hs) h
+pub tally-snoc : (planes : Bool) (m : ℕ) (t : Tally) (hs : List Head) (h : Head) → tally planes m t (hs ++ (h ∷ [])) ≡ tallyOne planes m (tally planes m t hs) h
 unfolding tally
 tally-snoc planes m t [] h = refl
 tally-snoc planes m t (x ∷ hs) h = tally-snoc planes m (tallyOne planes m t x) hs h

@@ -9,9 +9,9 @@ use Rattle.rules.specs.Refusals.{noRoom}
 use Rattle.sdf.specs.declared.Shape.{Shape}
 use Rattle.rules.specs.Prims.{shapeOf}
 use Rattle.bemitondry.specs.Calls.{rootAnswer, acosAnswer, primDistAnswer, primBoundsAnswer}
-use Rattle.viewer.specs.declared.Reply.{Reply}
-use Rattle.viewer.specs.Replies.{refusedReply, scalarReply, boxedReply}
-use Rattle.viewer.specs.Args.{floatAt, vecAt}
+use Rattle.reply.specs.declared.Reply.{Reply}
+use Rattle.reply.specs.Replies.{refusedReply, scalarReply, boxedReply}
+use Rattle.reply.specs.Args.{floatAt, vecAt}
 
 -- a reply to the first n bytes, where they are there
 abbrev pub judged : ℕ → List ℕ → Reply → Reply

@@ -1,0 +1,23 @@
+-- `args::float_of` meets its contract: past the end is the default. Assumes nothing.
+use mathlib.Core.Path.{sym, _∙_}
+use lib.ListN.{List·getD-eq-default}
+use lib.Ieee.{nan}
+use Rattle.root.proofs.Nans.{zero-by-zero}
+use borrow.Author.Needs.{needs}
+use Rattle.args.proofs.float_of.Statement.{statement}
+use Rattle.args.proofs.float_of.Tie as tie
+
+mul-result : tie.Need-mul-result
+mul-result c = search needs
+
+shared-slice-read-result : tie.Need-shared-slice-read-result
+shared-slice-read-result c = search needs
+
+returns : tie.Need-returns
+returns c = search needs
+
+returns-2 : tie.Need-returns-2
+returns-2 c = zero-by-zero ∙ sym (List·getD-eq-default (c .before .args .af .now) nan (c .if1 .left))
+
+pub float-of-spec : {M : Type 1} → statement M
+float-of-spec = tie.close (tie.spec mul-result shared-slice-read-result returns returns-2)

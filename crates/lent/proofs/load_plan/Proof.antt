@@ -1,0 +1,38 @@
+-- `lent::load_plan` meets its contract. Assumes nothing.
+use borrow.Author.Tests.{le-leb, lt-leb}
+use borrow.Author.Needs.{needs}
+use Rattle.lent.proofs.load_plan.Statement.{statement}
+use Rattle.lent.proofs.load_plan.Tie as tie
+
+slice-aggregate-load : tie.Need-slice-aggregate-load
+slice-aggregate-load c = search needs
+
+load-requires : tie.Need-load-requires
+load-requires c κs = search needs
+
+same-length : tie.Need-same-length
+same-length c = search needs
+
+returns : tie.Need-returns
+returns c = simp (lt-leb _ _ (c .before .before .before .before .before .if1 .taken)) (c .before .before .load .ensures)
+
+load-requires-2 : tie.Need-load-requires-2
+load-requires-2 c κs = search needs
+
+same-length-2 : tie.Need-same-length-2
+same-length-2 c = search needs
+
+returns-2 : tie.Need-returns-2
+returns-2 c = simp (le-leb _ _ (c .before .before .before .before .if1 .left)) (c .before .before .load2 .ensures)
+
+pub load-plan-spec : {M : Type 1} → statement M
+load-plan-spec =
+    tie.close
+    (tie.spec
+    slice-aggregate-load
+    load-requires
+    same-length
+    returns
+    load-requires-2
+    same-length-2
+    returns-2)

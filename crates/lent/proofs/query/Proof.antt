@@ -1,0 +1,49 @@
+-- `lent::query` meets its contract: what was loaded is what the bytes stand for. Assumes nothing.
+use lib.Ieee.{binary32, ofBits}
+use Rattle.lent.specs.Queries.{queryLoaded, queryReply}
+use Rattle.lent.proofs.Loads.{loaded}
+use borrow.Author.Needs.{needs}
+use Rattle.lent.proofs.query.Statement.{statement}
+use Rattle.lent.proofs.query.Tie as tie
+
+slice-aggregate-load-plan : tie.Need-slice-aggregate-load-plan
+slice-aggregate-load-plan c = search needs
+
+load-plan-requires : tie.Need-load-plan-requires
+load-plan-requires c κs = search needs
+
+slice-aggregate-floats : tie.Need-slice-aggregate-floats
+slice-aggregate-floats c = search needs
+
+slice-aggregate-floats-2 : tie.Need-slice-aggregate-floats-2
+slice-aggregate-floats-2 c = search needs
+
+floats-requires : tie.Need-floats-requires
+floats-requires c κs = search needs
+
+array-read-before : tie.Need-array-read-before
+array-read-before c = search needs
+
+before-requires : tie.Need-before-requires
+before-requires c κs = search needs
+
+query-loaded-requires : tie.Need-query-loaded-requires
+query-loaded-requires c κs = search needs
+
+returns : tie.Need-returns
+unfolding queryReply
+returns c = loaded queryLoaded _ _ _ _ _ (ofBits binary32 0) _ _ _ _ (c .before .before .before .before .before .before .before .before .before .load-plan .ensures) (c .before .before .before .before .before .floats .ensures) (c .before .before .before .before2 .ensures) (c .query-loaded .ensures)
+
+pub query-spec : {M : Type 1} → statement M
+query-spec =
+    tie.close
+    (tie.spec
+    slice-aggregate-load-plan
+    load-plan-requires
+    slice-aggregate-floats
+    slice-aggregate-floats-2
+    floats-requires
+    array-read-before
+    before-requires
+    query-loaded-requires
+    returns)
