@@ -16,7 +16,7 @@ use Rattle.entry.specs.declared.Added.{Added}
 use Rattle.entry.specs.declared.Added.the-variants.{Refused, Done}
 
 unfoldable pub addedOf : ℕ → ℕ → Added
-addedOf no index = cond (eqb no 0) (Done index) (Refused no)
+addedOf number index = cond (eqb number 0) (Done index) (Refused number)
 
 -- ---- room: in the list, and among the 1,024
 unfoldable pub roomNumber : ℕ → ℕ → Solids → ℕ → ℕ
@@ -82,7 +82,7 @@ withPiece planes w aw place =
     (oneMore (countOf planes w))
 
 unfoldable pub pieceLeft : Bool → List ℕ → Solids → List ℕ → ℕ → List ℕ
-pieceLeft planes w s aw no = cond (eqb no 0) (withPiece planes w aw (newPlace planes s (getD aw 2 0))) w
+pieceLeft planes w s aw number = cond (eqb number 0) (withPiece planes w aw (newPlace planes s (getD aw 2 0))) w
 
 -- what an entry of a piece answers, and the plan that it leaves
 pub record AddsPiece (before : ℕ) (planes : Bool) (w : List ℕ) (f : List Float) (aw : List ℕ) (af : List Float) (bytes : ℕ) (r : Added) (w′ : List ℕ) : Type 0 where
@@ -101,9 +101,9 @@ lightWords aw =
 abbrev pub zeros16 : List ℕ
 zeros16 = 0 ∷ 0 ∷ 0 ∷ 0 ∷ 0 ∷ 0 ∷ 0 ∷ 0 ∷ 0 ∷ 0 ∷ 0 ∷ 0 ∷ 0 ∷ 0 ∷ 0 ∷ 0 ∷ []
 
--- no is what the record gets, count and limit those of its list
+-- number is what the record gets, count and limit those of its list
 unfoldable pub recordNumber : ℕ → List ℕ → ℕ → ℕ → ℕ
-recordNumber no w count limit = lower no (unless noRoom (countsOk w && ltb count limit))
+recordNumber number w count limit = lower number (unless noRoom (countsOk w && ltb count limit))
 
 unfoldable pub withMaterial : List ℕ → List ℕ → List ℕ
 withMaterial w aw = set (sets w (16 * (1 + countMaterials w)) (materialWords aw)) 0 (oneMore (countMaterials w))
