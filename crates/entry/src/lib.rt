@@ -289,7 +289,7 @@ fn light_words(aw: &[u32]) -> [u32; 16]
 fn with_material(ws: &mut [u32; 22288], aw: &[u32])
     ensures { λ _. ⌜ now (ws .exit) ≡ withMaterial (now (ws .entry)) (now (aw .entry)) ⌝ }
 {
-    let count = ws[0];
+    let count = args::word_of(ws, 0);
     let rec = material_words(aw);
     put_row(ws, 1 + count as usize, &rec);
     ws[0] = one_more(count);
@@ -299,7 +299,7 @@ fn with_material(ws: &mut [u32; 22288], aw: &[u32])
 fn with_light(ws: &mut [u32; 22288], aw: &[u32])
     ensures { λ _. ⌜ now (ws .exit) ≡ withLight (now (ws .entry)) (now (aw .entry)) ⌝ }
 {
-    let count = ws[2];
+    let count = args::word_of(ws, 2);
     let rec = light_words(aw);
     let none = [0u32; 16];
     put_row(ws, 81 + 2 * (count as usize), &rec);
