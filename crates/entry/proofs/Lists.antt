@@ -6,7 +6,7 @@ use mathlib.Core.Bool.{Bool, cond}
 use mathlib.Core.List.{List, [], _∷_}
 use native.Mathlib.Numerals.{add-one, one-add}
 use native.Mathlib.Omega.{arith}
-use lib.ListN.{length, getD, set, drop, length-set, drop-of-length-le}
+use lib.ListN.{length, getD, set, drop, drop-of-length-le}
 use lib.Seq.{sets, set-out, drop-cons}
 use lib.Dec.{eqb}
 use lib.Ieee.{Float}
@@ -37,7 +37,7 @@ module _ (w aw : List ℕ) (place : ℕ) where
 
   pub put-more : (j : ℕ) → putCutters w aw place (j + 1) ≡ sets (putCutters w aw place j) (16 * (369 + (place + j))) (cutterWords aw (1 + j))
   unfolding putCutters
-  put-more j = rw (add-one, one-add)
+  put-more j = rw (add-one j, one-add j)
 
 -- ---- what an entry answers and leaves, from what its calls gave
 pub adds-piece : {before : ℕ} {planes : Bool} {w : List ℕ} {f : List Float} {aw : List ℕ} {af : List Float} {bytes : ℕ} {s : Solids} {no n : ℕ} {r : Added} {w′ : List ℕ} → s ≡ solidsOf w f → no ≡ pieceNumber before planes w s aw af bytes → n ≡ countOf planes w → r ≡ addedOf no n → w′ ≡ pieceLeft planes w s aw no → AddsPiece before planes w f aw af bytes r w′

@@ -289,6 +289,7 @@ fn light_words(aw: &[u32]) -> [u32; 16]
 fn with_material(ws: &mut [u32; 22288], aw: &[u32])
     ensures { λ _. ⌜ now (ws .exit) ≡ withMaterial (now (ws .entry)) (now (aw .entry)) ⌝ }
 {
+    // By a call, whose answer the proof knows to be a u32.
     let count = args::word_of(ws, 0);
     let rec = material_words(aw);
     put_row(ws, 1 + count as usize, &rec);
