@@ -3,13 +3,13 @@ ghost use mathlib.Core.Path.{_≡_};
 ghost use mathlib.Core.Bool.{cond};
 ghost use mathlib.Core.List.{[]};
 ghost use lib.ListN.{length};
-ghost use Rattle.words.specs.Words.{wordsOf};
+ghost use Rattle.words.specs.Words.{wordsOf, withWords};
 ghost use Rattle.lent.specs.Tables.{wholePlan, treeNumber, before};
 ghost use Rattle.lent.specs.Queries.{queryLoaded, queryReply, distMatLoaded, distMatReply};
 use reply::Reply;
 
 // A short plan stands as all zero.
-fn load_plan(plan: &[u8], ws: &mut [u32])
+pub fn load_plan(plan: &[u8], ws: &mut [u32])
     ensures { λ _. ⌜ now (ws .exit) ≡ wordsOf (cond (wholePlan (now (plan .entry))) (now (plan .entry)) []) (length (now (ws .entry))) ⌝ }
 {
     if plan.len() < 89152 {
@@ -17,6 +17,12 @@ fn load_plan(plan: &[u8], ws: &mut [u32])
         return;
     }
     words::load(plan, ws);
+}
+
+pub fn store_plan(ws: &[u32; 22288], plan: &mut [u8])
+    ensures { λ _. ⌜ now (plan .exit) ≡ withWords (now (plan .entry)) (now (ws .entry)) ⌝ }
+{
+    words::store(ws, plan);
 }
 
 fn tree_number(tree: u32, nodes: usize, order: usize, objects: u32) -> u32

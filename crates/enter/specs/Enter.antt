@@ -1,0 +1,78 @@
+-- Entries on lent tables: "a piece and its cutters enter together or nothing changes", every byte that each leaves. Definitions only.
+use Prim.Native.Nat.{ℕ}
+use mathlib.Core.Path.{_≡_}
+use mathlib.Core.Bool.{Bool, true, false, cond}
+use mathlib.Core.List.{List, _++_}
+use lib.ListN.{length, getD, drop, replicate}
+use lib.Dec.{leb, eqb}
+use lib.Ieee.{Float}
+use Rattle.words.specs.Words.{wordsOf, floatsOf, withWords}
+use Rattle.rules.specs.Refusals.{noRoom, unless, lower}
+use Rattle.scene.specs.Model.{countMaterials, countLights}
+use Rattle.sound.specs.Sound.{solidsOf}
+use Rattle.args.specs.Records.{materialOf, materialNumber, lightOf, lightNumber}
+use Rattle.entry.specs.declared.Added.{Added}
+use Rattle.entry.specs.declared.Added.the-variants.{Refused, Done}
+use Rattle.entry.specs.Entry.{addedOf, countOf, pieceNumber, newPlace, withPiece, recordNumber, withMaterial, withLight}
+use Rattle.lent.specs.Tables.{wholePlan, planWords, planFloats}
+
+-- the plan and `out` are of full size
+unfoldable pub shortNumber : List ℕ → ℕ → ℕ
+shortNumber plan out = lower (unless noRoom (wholePlan plan)) (unless noRoom (leb 64 out))
+
+-- ---- a material's five words, a light's fifteen
+abbrev pub argWords : List ℕ → ℕ → List ℕ
+argWords args n = wordsOf args n
+
+abbrev pub argFloats : List ℕ → ℕ → List Float
+argFloats args n = floatsOf (wordsOf args n) n
+
+-- short arguments are not judged
+unfoldable pub materialGiven : ℕ → List Float → ℕ
+materialGiven bytes af = cond (leb 20 bytes) (materialNumber (materialOf af 0)) noRoom
+
+unfoldable pub lightGiven : ℕ → List Float → ℕ
+lightGiven bytes af = cond (leb 60 bytes) (lightNumber (lightOf af 0)) noRoom
+
+unfoldable pub materialNo : List ℕ → List ℕ → ℕ → ℕ
+materialNo plan args out = recordNumber (lower (shortNumber plan out) (materialGiven (length args) (argFloats args 16))) (planWords plan) (countMaterials (planWords plan)) 64
+
+unfoldable pub lightNo : List ℕ → List ℕ → ℕ → ℕ
+lightNo plan args out = recordNumber (lower (shortNumber plan out) (lightGiven (length args) (argFloats args 16))) (planWords plan) (countLights (planWords plan)) 16
+
+unfoldable pub accepted : Added → Bool
+accepted (Refused n) = false
+accepted (Done i) = true
+
+-- what an entry answers, and the plan that it leaves
+pub record Enters (no index : ℕ) (plan w′ : List ℕ) (r : Added) (plan′ : List ℕ) : Type 0 where
+  pub answer : r ≡ addedOf no index
+  pub plan-is : plan′ ≡ cond (eqb no 0) (withWords plan w′) plan
+
+abbrev pub EntersMaterial : List ℕ → List ℕ → ℕ → Added → List ℕ → Type 0
+EntersMaterial plan args out r plan′ =
+    Enters (materialNo plan args out) (countMaterials (planWords plan)) plan (withMaterial (planWords plan) (argWords args 16)) r plan′
+
+abbrev pub EntersLight : List ℕ → List ℕ → ℕ → Added → List ℕ → Type 0
+EntersLight plan args out r plan′ = Enters (lightNo plan args out) (countLights (planWords plan)) plan (withLight (planWords plan) (argWords args 16)) r plan′
+
+-- ---- a piece's 144 words
+unfoldable pub pieceNo : ℕ → Bool → List ℕ → List ℕ → ℕ
+pieceNo before planes plan args =
+    pieceNumber before planes (planWords plan) (solidsOf (planWords plan) (planFloats plan)) (argWords args 144) (argFloats args 144) (length args)
+
+unfoldable pub pieceLeftIn : Bool → List ℕ → List ℕ → List ℕ
+pieceLeftIn planes plan args =
+    withPiece planes (planWords plan) (argWords args 144)
+    (newPlace planes (solidsOf (planWords plan) (planFloats plan)) (getD (argWords args 144) 2 0))
+
+abbrev pub EntersPiece : ℕ → Bool → List ℕ → List ℕ → Added → List ℕ → Type 0
+EntersPiece before planes plan args r plan′ =
+    Enters (pieceNo before planes plan args) (countOf planes (planWords plan)) plan (pieceLeftIn planes plan args) r plan′
+
+-- ---- "An accepted change of objects drops the tree: both tables become zero"
+unfoldable pub clearedFront : List ℕ → ℕ → List ℕ
+clearedFront b n = cond (leb n (length b)) (replicate n 0 ++ drop n b) b
+
+unfoldable pub cleared : Bool → List ℕ → ℕ → List ℕ
+cleared done b n = cond done (clearedFront b n) b
