@@ -1,8 +1,8 @@
 -- Entries on lent tables: "a piece and its cutters enter together or nothing changes", every byte that each leaves. Definitions only.
 use Prim.Native.Nat.{ℕ}
 use mathlib.Core.Path.{_≡_}
-use mathlib.Core.Bool.{Bool, true, false, cond}
-use mathlib.Core.List.{List, _++_}
+use mathlib.Core.Bool.{Bool, true, false, cond, _&&_}
+use mathlib.Core.List.{List, [], _∷_, _++_}
 use lib.ListN.{length, getD, drop, replicate}
 use lib.Dec.{leb, eqb}
 use lib.Ieee.{Float}
@@ -14,6 +14,8 @@ use Rattle.args.specs.Records.{materialOf, materialNumber, lightOf, lightNumber
 use Rattle.entry.specs.declared.Added.{Added}
 use Rattle.entry.specs.declared.Added.the-variants.{Refused, Done}
 use Rattle.entry.specs.Entry.{addedOf, countOf, pieceNumber, newPlace, withPiece, recordNumber, withMaterial, withLight}
+use Rattle.reply.specs.declared.Reply.{Reply}
+use Rattle.reply.specs.Replies.{refusedReply, settled, Sent}
 use Rattle.lent.specs.Tables.{wholePlan, planWords, planFloats}
 
 -- the plan and `out` are of full size
@@ -76,3 +78,41 @@ clearedFront b n = cond (leb n (length b)) (replicate n 0 ++ drop n b) b
 
 unfoldable pub cleared : Bool → List ℕ → ℕ → List ℕ
 cleared done b n = cond done (clearedFront b n) b
+
+-- ---- replies: the number of what entered
+unfoldable pub addedReply : Added → Reply
+addedReply (Refused n) = refusedReply n
+addedReply (Done i) = record { number = 0; words = i ∷ 0 ∷ 0 ∷ 0 ∷ 0 ∷ 0 ∷ 0 ∷ 0 ∷ 0 ∷ 0 ∷ 0 ∷ 0 ∷ 0 ∷ 0 ∷ 0 ∷ 0 ∷ [] }
+
+-- what a call of an entry leaves: its number, every byte of `out`, and every byte of the plan
+pub record EntrySent (no index : ℕ) (plan w′ out : List ℕ) (n : ℕ) (plan′ out′ : List ℕ) : Type 0 where
+  pub sent : Sent (settled (leb 64 (length out)) (addedReply (addedOf no index))) out n out′
+  pub plan-is : plan′ ≡ cond (eqb no 0) (withWords plan w′) plan
+
+abbrev pub MaterialSent : List ℕ → List ℕ → List ℕ → ℕ → List ℕ → List ℕ → Type 0
+MaterialSent plan args out n plan′ out′ =
+    EntrySent (materialNo plan args (length out)) (countMaterials (planWords plan)) plan (withMaterial (planWords plan) (argWords args 16)) out n plan′ out′
+
+abbrev pub LightSent : List ℕ → List ℕ → List ℕ → ℕ → List ℕ → List ℕ → Type 0
+LightSent plan args out n plan′ out′ =
+    EntrySent (lightNo plan args (length out)) (countLights (planWords plan)) plan (withLight (planWords plan) (argWords args 16)) out n plan′ out′
+
+abbrev pub PieceSent : ℕ → Bool → List ℕ → List ℕ → List ℕ → ℕ → List ℕ → List ℕ → Type 0
+PieceSent before planes plan args out n plan′ out′ =
+    EntrySent (pieceNo before planes plan args) (countOf planes (planWords plan)) plan (pieceLeftIn planes plan args) out n plan′ out′
+
+abbrev pub PlaneSent : List ℕ → List ℕ → List ℕ → ℕ → List ℕ → List ℕ → Type 0
+PlaneSent plan args out n plan′ out′ = PieceSent (shortNumber plan (length out)) true plan args out n plan′ out′
+
+-- the tree's tables are of full size too: 18,396 and 1,024 bytes
+unfoldable pub objectBefore : List ℕ → ℕ → ℕ → ℕ → ℕ
+objectBefore plan nodes order out = lower (shortNumber plan out) (unless noRoom (leb 18396 nodes && leb 1024 order))
+
+abbrev pub objectAnswer : List ℕ → List ℕ → List ℕ → List ℕ → List ℕ → Added
+objectAnswer plan nodes order args out =
+    addedOf (pieceNo (objectBefore plan (length nodes) (length order) (length out)) false plan args) (countOf false (planWords plan))
+
+pub record ObjectSent (plan nodes order args out : List ℕ) (n : ℕ) (plan′ nodes′ order′ out′ : List ℕ) : Type 0 where
+  pub piece : PieceSent (objectBefore plan (length nodes) (length order) (length out)) false plan args out n plan′ out′
+  pub nodes-is : nodes′ ≡ cleared (accepted (objectAnswer plan nodes order args out)) nodes 18396
+  pub order-is : order′ ≡ cleared (accepted (objectAnswer plan nodes order args out)) order 1024

@@ -1,8 +1,9 @@
 // Entries on lent tables: the plan is loaded, the entry made on what was loaded, and stored where it was accepted.
 ghost use mathlib.Core.Path.{_≡_};
 ghost use lib.ListN.{length};
-ghost use Rattle.enter.specs.Enter.{shortNumber, materialGiven, lightGiven, accepted, EntersMaterial, EntersLight, EntersPiece, clearedFront, cleared};
+ghost use Rattle.enter.specs.Enter.{shortNumber, materialGiven, lightGiven, accepted, EntersMaterial, EntersLight, EntersPiece, clearedFront, cleared, addedReply, objectBefore};
 use entry::Added;
+use reply::Reply;
 
 // The plan and `out` are of full size.
 pub fn short_number(plan: &[u8], out: usize) -> u32
@@ -113,4 +114,26 @@ pub fn clear(done: bool, b: &mut [u8], n: usize)
     if done {
         clear_front(b, n);
     }
+}
+
+pub fn added_reply(a: Added) -> Reply
+    ensures { λ r. ⌜ r ≡ addedReply a ⌝ }
+{
+    match a {
+        Added::Refused(n) => reply::refused(n),
+        Added::Done(i) => Reply {
+            number: 0,
+            words: [i, 0, 0, 0, 0, 0, 0, 0, 0, 0, 0, 0, 0, 0, 0, 0],
+        },
+    }
+}
+
+// The tree's tables are of full size too.
+pub fn object_before(plan: &[u8], nodes: usize, order: usize, out: usize) -> u32
+    ensures { λ r. ⌜ r ≡ objectBefore (now (plan .entry)) nodes order out ⌝ }
+{
+    rules::lower(
+        short_number(plan, out),
+        rules::unless(2, rules::both(18396 <= nodes, 1024 <= order)),
+    )
 }

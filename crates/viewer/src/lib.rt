@@ -5,6 +5,7 @@ ghost use lib.Dec.{leb};
 ghost use Rattle.reply.specs.Replies.{settled, Sent};
 ghost use Rattle.viewer.specs.Calls.{rootReply, acosReply, primDistReply, primBoundsReply};
 ghost use Rattle.lent.specs.Queries.{queryReply, distMatReply};
+ghost use Rattle.enter.specs.Enter.{MaterialSent, LightSent, PlaneSent, ObjectSent};
 use reply::Reply;
 
 fn root_reply(args: &[u8]) -> Reply
@@ -113,4 +114,47 @@ pub extern "C" fn viewer_dist_mat(
         lent::dist_mat(plan, nodes.len(), order.len(), tree, args),
         out,
     )
+}
+
+#[no_mangle]
+pub extern "C" fn viewer_add_material(plan: &mut [u8], args: &[u8], out: &mut [u8]) -> u32
+    ensures { λ n. ⌜ MaterialSent (now (plan .entry)) (now (args .entry)) (now (out .entry)) n (now (plan .exit)) (now (out .exit)) ⌝ }
+{
+    let a = enter::add_material(plan, args, out.len());
+    reply::answer(enter::added_reply(a), out)
+}
+
+#[no_mangle]
+pub extern "C" fn viewer_add_light(plan: &mut [u8], args: &[u8], out: &mut [u8]) -> u32
+    ensures { λ n. ⌜ LightSent (now (plan .entry)) (now (args .entry)) (now (out .entry)) n (now (plan .exit)) (now (out .exit)) ⌝ }
+{
+    let a = enter::add_light(plan, args, out.len());
+    reply::answer(enter::added_reply(a), out)
+}
+
+#[no_mangle]
+pub extern "C" fn viewer_add_plane(plan: &mut [u8], args: &[u8], out: &mut [u8]) -> u32
+    ensures { λ n. ⌜ PlaneSent (now (plan .entry)) (now (args .entry)) (now (out .entry)) n (now (plan .exit)) (now (out .exit)) ⌝ }
+{
+    let before = enter::short_number(plan, out.len());
+    let a = enter::add_piece(before, true, plan, args);
+    reply::answer(enter::added_reply(a), out)
+}
+
+#[no_mangle]
+pub extern "C" fn viewer_add_object(
+    plan: &mut [u8],
+    nodes: &mut [u8],
+    order: &mut [u8],
+    args: &[u8],
+    out: &mut [u8],
+) -> u32
+    ensures { λ n. ⌜ ObjectSent (now (plan .entry)) (now (nodes .entry)) (now (order .entry)) (now (args .entry)) (now (out .entry)) n (now (plan .exit)) (now (nodes .exit)) (now (order .exit)) (now (out .exit)) ⌝ }
+{
+    let before = enter::object_before(plan, nodes.len(), order.len(), out.len());
+    let a = enter::add_piece(before, false, plan, args);
+    let done = enter::accepted(a);
+    enter::clear(done, nodes, 18396);
+    enter::clear(done, order, 1024);
+    reply::answer(enter::added_reply(a), out)
 }
