@@ -8,9 +8,10 @@ mod shapes;
 
 use std::time::Instant;
 
-type Part = fn() -> Result<String, String>;
+/// A comparison: a line that says what was compared, or the first difference.
+pub type Part = (&'static str, fn() -> Result<String, String>);
 
-const PARTS: [(&str, Part); 5] = [
+const PARTS: [Part; 5] = [
     ("root", root::run),
     ("arc cosine", acos::run),
     ("chosen cases", chosen::run),
@@ -19,14 +20,21 @@ const PARTS: [(&str, Part); 5] = [
 ];
 
 pub fn run() -> Result<(), String> {
+    let mut parts = PARTS.to_vec();
+    #[cfg(feature = "plan")]
+    parts.extend(crate::plan::GATE);
+    run_parts("gate", &parts)
+}
+
+pub fn run_parts(whole: &str, parts: &[Part]) -> Result<(), String> {
     let start = Instant::now();
-    for (name, part) in PARTS {
+    for (name, part) in parts {
         let start = Instant::now();
         let line = part().map_err(|what| format!("{name}: {what}"))?;
         let seconds = start.elapsed().as_secs_f32();
         println!("{name}: {line} ({seconds:.1} s)");
     }
     let seconds = start.elapsed().as_secs_f32();
-    println!("gate: no difference ({seconds:.1} s)");
+    println!("{whole}: no difference ({seconds:.1} s)");
     Ok(())
 }
