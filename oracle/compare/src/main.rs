@@ -24,7 +24,7 @@ const USAGE: &str = "\
 compare gate          the comparisons of every change, some seconds
 compare sweep root    every f32 from 0 to f32::MAX
 compare sweep acos    every f32 from -1 to 1
-compare plan          entries, damaged plans and queries, at length (with the feature `plan`)
+compare plan [PART]   calls on plans, at length (with the feature `plan`)
 compare bench         times, ours beside the Rust's
 compare store FILE    writes the answers that are replayed without Rust";
 
@@ -36,6 +36,8 @@ fn main() -> ExitCode {
         ["sweep", which] => sweep::run(which),
         #[cfg(feature = "plan")]
         ["plan"] => plan::run(),
+        #[cfg(feature = "plan")]
+        ["plan", part] => plan::run_one(part),
         ["bench"] => bench::run(),
         ["store", file] => store::run(file),
         _ => Err(format!("usage:\n{USAGE}")),

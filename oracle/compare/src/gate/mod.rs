@@ -19,11 +19,13 @@ const PARTS: [Part; 5] = [
     ("refusals", refusals::run),
 ];
 
+#[cfg(feature = "plan")]
+use crate::plan::GATE as PLAN_PARTS;
+#[cfg(not(feature = "plan"))]
+const PLAN_PARTS: [Part; 0] = [];
+
 pub fn run() -> Result<(), String> {
-    let mut parts = PARTS.to_vec();
-    #[cfg(feature = "plan")]
-    parts.extend(crate::plan::GATE);
-    run_parts("gate", &parts)
+    run_parts("gate", &[&PARTS[..], &PLAN_PARTS].concat())
 }
 
 pub fn run_parts(whole: &str, parts: &[Part]) -> Result<(), String> {

@@ -93,18 +93,27 @@ fn place(i: usize) -> String {
 }
 
 fn different(call: PlanCall, lent: &Lent, what: &str) -> String {
-    format!(
-        "{}: {what}\n  args of {} bytes: {}\n  out of {} bytes, nodes of {}, order of {}, tree {}\n  plan of {} bytes, its records that are not 0 before the call:{}",
-        call.name(),
-        lent.args.len(),
-        words::show_all(&lent.args.before()),
-        lent.out.len(),
-        lent.nodes.len(),
-        lent.order.len(),
-        lent.tree,
-        lent.plan.len(),
-        records(&lent.plan.before()),
-    )
+    let lines = [
+        format!("{}: {what}", call.name()),
+        format!(
+            "args of {} bytes: {}",
+            lent.args.len(),
+            words::show_all(&lent.args.before())
+        ),
+        format!(
+            "out of {} bytes, nodes of {}, order of {}, tree {}",
+            lent.out.len(),
+            lent.nodes.len(),
+            lent.order.len(),
+            lent.tree
+        ),
+        format!(
+            "plan of {} bytes, before the call, but for records of zeros:{}",
+            lent.plan.len(),
+            records(&lent.plan.before())
+        ),
+    ];
+    lines.join("\n  ")
 }
 
 /// The plan in words, without the zeros at the end of a record.

@@ -28,27 +28,34 @@ use crate::gate::{run_parts, Part};
 
 /// What `gate` runs of it.
 pub const GATE: [Part; 7] = [
-    ("entries", || entries::run(10)),
-    ("limits of a plan", limits::run),
-    ("refusals together", || pairs::run(2)),
-    ("lengths of tables", lengths::run),
-    ("empty plans", empty::run),
-    ("queries by the list", || queries::run(60, 60)),
-    ("damaged plans", || damage::run(10_000)),
+    ("plan entries", || entries::run(10)),
+    ("plan limits", limits::run),
+    ("plan refusals", || pairs::run(2)),
+    ("plan lengths", lengths::run),
+    ("plan empty", empty::run),
+    ("plan queries", || queries::run(60, 60)),
+    ("plan damage", || damage::run(10_000)),
 ];
 
 /// The same at length.
 const LONG: [Part; 8] = [
     ("entries", || entries::run(300)),
-    ("limits of a plan", limits::run),
-    ("refusals together", || pairs::run(3)),
-    ("lengths of tables", lengths::run),
-    ("empty plans", empty::run),
-    ("queries by the list", || queries::run(2_000, 100)),
-    ("words of a plan", damage::every_word),
-    ("damaged plans", || damage::run(300_000)),
+    ("limits", limits::run),
+    ("refusals", || pairs::run(3)),
+    ("lengths", lengths::run),
+    ("empty", empty::run),
+    ("queries", || queries::run(2_000, 100)),
+    ("words", damage::every_word),
+    ("damage", || damage::run(300_000)),
 ];
 
 pub fn run() -> Result<(), String> {
     run_parts("plan", &LONG)
+}
+
+/// One part of the long run.
+pub fn run_one(name: &str) -> Result<(), String> {
+    let part = LONG.iter().find(|part| part.0 == name);
+    let part = part.ok_or_else(|| format!("there is no part `{name}`"))?;
+    run_parts("plan", &[*part])
 }

@@ -46,7 +46,8 @@ pub fn run(plans: usize, points: usize) -> Result<String, String> {
         ));
     }
     Ok(format!(
-        "{plans} plans from {points} points, each the source's; {nearest} pieces nearest ({ties} tied, {cut} by a cutter), {bounds} bounds kept"
+        "{plans} plans from {points} points, each the source's; \
+         {nearest} objects nearest ({ties} tied, {cut} by a cutter), {bounds} bounds kept"
     ))
 }
 

@@ -74,7 +74,9 @@ pub fn every_word() -> Result<String, String> {
     let mut sent = Sent::default();
     let plan = loop {
         let plan = draw::plan(&mut rng, 40);
-        if cutters_of(&plan.planes) > 0 && cutters_of(&plan.objects) > 0 {
+        let full = |list: List| plan.count(list) == list.section().records;
+        let cut = [&plan.planes, &plan.objects].map(|pieces| cutters_of(pieces) > 0);
+        if cut == [true, true] && !List::ALL.into_iter().any(full) {
             break plan;
         }
     };

@@ -3,7 +3,8 @@
 
 mod args;
 mod flat;
-mod tables;
+mod pieces;
+mod whole;
 
 use super::call::PlanCall;
 use super::check::expect;
@@ -20,11 +21,11 @@ pub fn run() -> Result<String, String> {
     args::simple(&mut cases)?;
     for list in [List::Planes, List::Objects] {
         args::piece(list, &mut cases)?;
-        tables::pieces(list, &mut cases)?;
+        pieces::run(list, &mut cases)?;
     }
-    tables::counts(&mut cases)?;
-    tables::sums(&mut cases)?;
-    tables::never_read(&mut cases)?;
+    whole::counts(&mut cases)?;
+    whole::sums(&mut cases)?;
+    whole::never_read(&mut cases)?;
     flat::capsules(&mut cases)?;
     flat::lights(&mut cases)?;
     Ok(format!("{} cases", cases.count))
@@ -53,7 +54,7 @@ impl Cases {
         self.base.args(args);
     }
 
-    /// Calls with some words of `args` and of the plan changed.
+    /// Makes the call with some words of `args` and of the plan changed.
     fn hold(
         &mut self,
         call: PlanCall,
@@ -120,10 +121,8 @@ fn rows(cases: &mut Cases) -> Result<(), String> {
         cases.hold(PlanCall::DistMat, &[], &[], DONE)?;
         let have = [0, 1].map(|i| cases.lent.out.word(i));
         if have != [f32::to_bits(answer), 0] {
-            return Err(format!(
-                "{name}: the source gives {}",
-                words::show_all(&have)
-            ));
+            let have = words::show_all(&have);
+            return Err(format!("{name}: the source gives {have}"));
         }
     }
     cases.plan(&sound::plan());
@@ -134,6 +133,9 @@ fn rows(cases: &mut Cases) -> Result<(), String> {
 fn kinds(list: List) -> impl Iterator<Item = u32> {
     (0..KINDS).filter(move |&kind| (kind == PLANE) == (list == List::Planes))
 }
+
+/// Numbers of materials that are not there, where three are.
+const ABSENT: [u32; 7] = [3, 4, 64, 0x100, 0x1_0000, 1 << 31, u32::MAX];
 
 /// Words that are no number of cutters, some of which overflow when a length is worked out.
 const TOO_MANY: [u32; 9] = [9, 10, 16, 0x100, 0x108, 1 << 26, 1 << 28, 1 << 31, u32::MAX];
