@@ -101,8 +101,13 @@ fn own_words(list: List, cases: &mut Cases) -> Result<(), String> {
     for absent in ABSENT {
         cases.with_args(call, MATERIAL, absent, NO_MATERIAL)?;
     }
-    for cuts in 0..=MOST_CUTTERS as u32 {
-        cases.with_args(call, CUTS, cuts, DONE)?;
+    for cuts in 0..=MOST_CUTTERS {
+        cases.with_args(call, CUTS, cuts as u32, DONE)?;
+    }
+    // What stands past the last cutter is not read.
+    for cuts in 0..MOST_CUTTERS {
+        let changes = [(CUTS, cuts as u32), ((1 + cuts) * ROW, 7)];
+        cases.hold(call, &changes, &[], DONE)?;
     }
     for cuts in TOO_MANY {
         cases.with_args(call, CUTS, cuts, NO_ROOM)?;
