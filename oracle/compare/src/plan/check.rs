@@ -26,6 +26,7 @@ pub fn expect(call: PlanCall, lent: &mut Lent, number: u32) -> Result<(), String
     let judged = judge::number(call, lent);
     if judged != number {
         let what = format!("our judge says {judged}, the case says {number}");
+        lent.plan.begin();
         return Err(different(call, lent, &what));
     }
     check(call, lent).map(|_| ())

@@ -8,7 +8,8 @@ use super::layout::*;
 use super::lent::Lent;
 use super::model::Plan;
 use super::sound;
-use crate::judge::DONE;
+use crate::cases::limits::NOT_FINITE;
+use crate::judge::{BAD_WORD, DONE};
 use crate::rng::Rng;
 use crate::words;
 
@@ -27,6 +28,13 @@ pub fn run() -> Result<String, String> {
                     lent.order.resize(rng.below(ORDER_BYTES + 64));
                 }
                 let args = args(&mut rng, call);
+                // Where there is nothing to look at, the arguments are judged all the same.
+                for &i in judged(call) {
+                    lent.args(&args);
+                    lent.args.put(i, &NOT_FINITE[..1]);
+                    expect(call, &mut lent, BAD_WORD)?;
+                    count += 1;
+                }
                 lent.args(&args);
                 expect(call, &mut lent, DONE)?;
                 if call.asks() {
@@ -69,6 +77,16 @@ fn args(rng: &mut Rng, call: PlanCall) -> Vec<u32> {
         args[MATERIAL] = 0;
     }
     args
+}
+
+/// Words of `args` that may not be infinite.
+fn judged(call: PlanCall) -> &'static [usize] {
+    match call {
+        PlanCall::AddMaterial | PlanCall::AddLight => &[0, 4],
+        PlanCall::AddPlane | PlanCall::AddObject => &[BLEND, SHAPE, ROW + 1],
+        PlanCall::Query => &[0, 1, 2, 3],
+        PlanCall::DistMat => &[0, 1, 2],
+    }
 }
 
 /// The bound and its word come back, or `f32::MAX` and 0.

@@ -81,7 +81,7 @@ impl Table {
         self.must.fill(MARK);
     }
 
-    /// From here on, what a call must leave is told.
+    /// A new call: what it must change is told from here on.
     pub fn begin(&mut self) {
         self.changes.clear();
     }

@@ -64,7 +64,7 @@ pub fn run(damages: usize) -> Result<String, String> {
     }
     let lines = sent.lines();
     Ok(format!(
-        "{damages}; of each number, 0 to 5, {in_all:?}{lines}"
+        "{damages} plans; of each number, 0 to 5, {in_all:?}{lines}"
     ))
 }
 
@@ -99,7 +99,9 @@ pub fn every_word() -> Result<String, String> {
         }
     }
     let lines = sent.lines();
-    Ok(format!("{PLAN_WORDS}; of each number, 0 to 5{lines}"))
+    Ok(format!(
+        "{PLAN_WORDS} in turn; of each number, 0 to 5{lines}"
+    ))
 }
 
 /// How many words of a plan a call reads, by the number that they get when they are no number:
@@ -132,6 +134,10 @@ fn try_call(
     let mut args = sound::args(call);
     if call.asks() {
         args[..3].copy_from_slice(&draw::point(rng, plan));
+        if call == PlanCall::Query {
+            args[3] = rng.pick(&[f32::MAX, 1.0, 0.0, -f32::MAX]).to_bits();
+            args[4] = rng.word();
+        }
     } else if !call.tests().is_empty() {
         args[MATERIAL] = 0;
     }
