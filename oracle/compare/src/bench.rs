@@ -53,21 +53,38 @@ pub fn run() -> Result<(), String> {
     pair("bounds, any", &inputs, ours_bounds, |i| {
         i.prim.bounds().unwrap()
     });
+    #[cfg(feature = "plan")]
+    crate::plan::bench::run();
     Ok(())
 }
 
 /// Times both on the same inputs and prints a line of the table.
-fn pair<I, A, B>(name: &str, inputs: &[I], ours: impl Fn(&I) -> A, theirs: impl Fn(&I) -> B) {
+pub fn pair<I, A, B>(
+    name: &str,
+    inputs: &[I],
+    mut ours: impl FnMut(&I) -> A,
+    mut theirs: impl FnMut(&I) -> B,
+) {
     let (mut least_ours, mut least_theirs) = (f64::MAX, f64::MAX);
     for _ in 0..TURNS {
-        least_ours = least_ours.min(nanoseconds(inputs, &ours));
-        least_theirs = least_theirs.min(nanoseconds(inputs, &theirs));
+        least_ours = least_ours.min(nanoseconds(inputs, &mut ours));
+        least_theirs = least_theirs.min(nanoseconds(inputs, &mut theirs));
     }
     let ratio = least_ours / least_theirs;
     println!("{name:<20} {least_ours:>8.2} {least_theirs:>8.2} {ratio:>7.2}");
 }
 
-fn nanoseconds<I, A>(inputs: &[I], f: &impl Fn(&I) -> A) -> f64 {
+/// The same where the Rust has nothing to put beside ours.
+#[cfg(feature = "plan")]
+pub fn alone<I, A>(name: &str, inputs: &[I], mut ours: impl FnMut(&I) -> A) {
+    let mut least = f64::MAX;
+    for _ in 0..TURNS {
+        least = least.min(nanoseconds(inputs, &mut ours));
+    }
+    println!("{name:<20} {least:>8.2}");
+}
+
+fn nanoseconds<I, A>(inputs: &[I], f: &mut impl FnMut(&I) -> A) -> f64 {
     let start = Instant::now();
     for input in inputs {
         black_box(f(black_box(input)));

@@ -61,7 +61,7 @@ fn compare_words(call: Call, out: &[u8], want: &[u32; OUT_WORDS]) -> Result<(), 
     Ok(())
 }
 
-fn same(have: u32, want: u32, by_bits: bool) -> bool {
+pub fn same(have: u32, want: u32, by_bits: bool) -> bool {
     let (h, w) = (f32::from_bits(have), f32::from_bits(want));
     have == want || (!by_bits && (h == w || (h.is_nan() && w.is_nan())))
 }
@@ -74,11 +74,10 @@ fn untouched(bytes: &[u8], first: usize) -> Result<(), String> {
 }
 
 fn different(call: Call, args: &[u8], out_len: usize, what: &str) -> String {
-    let words: Vec<u32> = (0..args.len() / 4).map(|i| words::word(args, i)).collect();
     format!(
         "{}: {what}\n  args of {} bytes: {}\n  out of {out_len} bytes",
         call.name(),
         args.len(),
-        words::show_all(&words),
+        words::show_all(&words::all(args)),
     )
 }

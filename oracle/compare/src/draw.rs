@@ -31,7 +31,7 @@ fn between_bits(rng: &mut Rng, lo: f32, hi: f32) -> f32 {
 }
 
 /// The number of the range that is nearest to `x` or, where it may not be negative, to its size.
-fn fit(x: f32, range: Range) -> f32 {
+pub fn fit(x: f32, range: Range) -> f32 {
     let x = if range.lo < 0.0 { x } else { x.abs() };
     x.clamp(range.lo, range.hi)
 }

@@ -27,11 +27,11 @@ impl Range {
     }
 }
 
-const fn magnitude(hi: f32) -> Range {
+pub const fn magnitude(hi: f32) -> Range {
     Range { lo: -hi, hi }
 }
 
-const fn not_negative(hi: f32) -> Range {
+pub const fn not_negative(hi: f32) -> Range {
     Range { lo: 0.0, hi }
 }
 
@@ -60,10 +60,15 @@ pub fn ranges(kind: u32) -> Option<&'static [Range]> {
 }
 
 /// Where several numbers apply the lowest is sent.
-struct Lowest(u32);
+#[derive(Default)]
+pub struct Lowest(u32);
 
 impl Lowest {
-    fn apply(&mut self, number: u32, when: bool) {
+    pub fn number(&self) -> u32 {
+        self.0
+    }
+
+    pub fn apply(&mut self, number: u32, when: bool) {
         if when && (self.0 == DONE || number < self.0) {
             self.0 = number;
         }
@@ -72,13 +77,13 @@ impl Lowest {
 
 /// The number for `args`, all its bytes, and an `out` of that many bytes.
 pub fn number(call: Call, args: &[u8], out_len: usize) -> u32 {
-    let mut lowest = Lowest(DONE);
+    let mut lowest = Lowest::default();
     let short = args.len() < 4 * call.args_words();
     lowest.apply(NO_ROOM, short || out_len < OUT_BYTES);
     if !short {
         judge_args(call, &words::args(args), &mut lowest);
     }
-    lowest.0
+    lowest.number()
 }
 
 fn judge_args(call: Call, args: &[u32], lowest: &mut Lowest) {
@@ -96,7 +101,7 @@ fn judge_args(call: Call, args: &[u32], lowest: &mut Lowest) {
     }
 }
 
-fn judge_prim(kind: u32, words: &[u32], lowest: &mut Lowest) {
+pub fn judge_prim(kind: u32, words: &[u32], lowest: &mut Lowest) {
     match ranges(kind) {
         None => lowest.apply(BAD_WORD, true),
         Some(ranges) => judge_floats(words, ranges, lowest),
@@ -105,7 +110,7 @@ fn judge_prim(kind: u32, words: &[u32], lowest: &mut Lowest) {
 }
 
 /// Judges as many words as there are ranges.
-fn judge_floats(words: &[u32], ranges: &[Range], lowest: &mut Lowest) {
+pub fn judge_floats(words: &[u32], ranges: &[Range], lowest: &mut Lowest) {
     for (&word, range) in words.iter().zip(ranges) {
         lowest.apply(BAD_WORD, !range.has(f32::from_bits(word)));
     }

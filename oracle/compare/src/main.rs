@@ -9,6 +9,8 @@ mod check;
 mod draw;
 mod gate;
 mod judge;
+#[cfg(feature = "plan")]
+mod plan;
 mod rng;
 mod store;
 mod sweep;
@@ -22,6 +24,7 @@ const USAGE: &str = "\
 compare gate          the comparisons of every change, some seconds
 compare sweep root    every f32 from 0 to f32::MAX
 compare sweep acos    every f32 from -1 to 1
+compare plan [PART]   calls on plans, at length (with the feature `plan`)
 compare bench         times, ours beside the Rust's
 compare store FILE    writes the answers that are replayed without Rust";
 
@@ -31,6 +34,10 @@ fn main() -> ExitCode {
     let result = match args[..] {
         ["gate"] => gate::run(),
         ["sweep", which] => sweep::run(which),
+        #[cfg(feature = "plan")]
+        ["plan"] => plan::run(),
+        #[cfg(feature = "plan")]
+        ["plan", part] => plan::run_one(part),
         ["bench"] => bench::run(),
         ["store", file] => store::run(file),
         _ => Err(format!("usage:\n{USAGE}")),

@@ -16,6 +16,11 @@ pub fn bytes(words: &[u32]) -> Vec<u8> {
     words.iter().flat_map(|word| word.to_le_bytes()).collect()
 }
 
+/// The whole words of `bytes`.
+pub fn all(bytes: &[u8]) -> Vec<u32> {
+    (0..bytes.len() / 4).map(|i| word(bytes, i)).collect()
+}
+
 /// The first words of `bytes`, as many as a call can read; 0 where there are none.
 pub fn args(bytes: &[u8]) -> [u32; MOST_ARGS] {
     let mut words = [0; MOST_ARGS];

@@ -97,7 +97,7 @@ fn of_kind(call: Call, kind: u32, cases: &mut Vec<Case>) {
 }
 
 /// Words about a range, with the number each gets where a sound word gets `taken`.
-fn about(range: Range, taken: u32) -> Vec<(u32, u32)> {
+pub fn about(range: Range, taken: u32) -> Vec<(u32, u32)> {
     let Range { lo, hi } = range;
     let least = f32::from_bits(1);
     let inside = [lo, hi, lo.next_up(), hi.next_down(), 0.0, -0.0, least];

@@ -8,9 +8,10 @@ mod shapes;
 
 use std::time::Instant;
 
-type Part = fn() -> Result<String, String>;
+/// A comparison: a line that says what was compared, or the first difference.
+pub type Part = (&'static str, fn() -> Result<String, String>);
 
-const PARTS: [(&str, Part); 5] = [
+const PARTS: [Part; 5] = [
     ("root", root::run),
     ("arc cosine", acos::run),
     ("chosen cases", chosen::run),
@@ -18,15 +19,24 @@ const PARTS: [(&str, Part); 5] = [
     ("refusals", refusals::run),
 ];
 
+#[cfg(feature = "plan")]
+use crate::plan::GATE as PLAN_PARTS;
+#[cfg(not(feature = "plan"))]
+const PLAN_PARTS: [Part; 0] = [];
+
 pub fn run() -> Result<(), String> {
+    run_parts("gate", &[&PARTS[..], &PLAN_PARTS].concat())
+}
+
+pub fn run_parts(whole: &str, parts: &[Part]) -> Result<(), String> {
     let start = Instant::now();
-    for (name, part) in PARTS {
+    for (name, part) in parts {
         let start = Instant::now();
         let line = part().map_err(|what| format!("{name}: {what}"))?;
         let seconds = start.elapsed().as_secs_f32();
         println!("{name}: {line} ({seconds:.1} s)");
     }
     let seconds = start.elapsed().as_secs_f32();
-    println!("gate: no difference ({seconds:.1} s)");
+    println!("{whole}: no difference ({seconds:.1} s)");
     Ok(())
 }

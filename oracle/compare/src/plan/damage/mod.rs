@@ -1,0 +1,148 @@
+//! Damaged plans: a word of a good plan, sometimes two, is changed. A call must send the number
+//! that the judge says or, where the word is not read, answer as if nothing had happened.
+
+mod strike;
+
+use super::call::PlanCall;
+use super::check::check;
+use super::draw;
+use super::layout::*;
+use super::lent::Lent;
+use super::model::{cutters_of, used, Plan};
+use super::sound;
+use crate::cases::limits::NOT_FINITE;
+use crate::rng::Rng;
+
+/// Damages of one plan before the next is drawn.
+const OF_A_PLAN: usize = 40;
+
+/// Fewer refusals with some number than one in this many damages would mean bad drawing.
+const LEAST: usize = 400;
+
+/// How often each call sent each number, 0 to 5.
+#[derive(Default)]
+struct Sent([[usize; 6]; PlanCall::ALL.len()]);
+
+impl Sent {
+    fn in_all(&self, number: usize) -> usize {
+        self.0.iter().map(|of_call| of_call[number]).sum()
+    }
+
+    fn lines(&self) -> String {
+        let lines = PlanCall::ALL.map(|call| {
+            let of_call = self.0[call as usize];
+            format!("\n    {}: {of_call:?}", call.name())
+        });
+        lines.concat()
+    }
+}
+
+pub fn run(damages: usize) -> Result<String, String> {
+    let mut rng = Rng::new(23);
+    let mut sent = Sent::default();
+    for i in 0..damages / OF_A_PLAN {
+        let objects = draw::objects(&mut rng);
+        let plan = draw::plan(&mut rng, objects);
+        let good = Lent::new(&plan, i);
+        let mut lent = Lent::new(&plan, i);
+        for _ in 0..OF_A_PLAN {
+            lent.plan.copy(&good.plan);
+            strike::strike(&mut rng, &plan, &mut lent.plan);
+            while rng.one_in(5) {
+                strike::strike(&mut rng, &plan, &mut lent.plan);
+            }
+            let entry = rng.pick(&PlanCall::ENTRIES);
+            // The entry comes last, since it may be accepted.
+            for call in [PlanCall::Query, PlanCall::DistMat, entry] {
+                try_call(&mut rng, &plan, call, &mut lent, &mut sent)?;
+            }
+        }
+    }
+    let in_all: Vec<usize> = (0..6).map(|number| sent.in_all(number)).collect();
+    if in_all.iter().any(|&n| n < damages / LEAST) {
+        return Err(format!("badly drawn: of each number {in_all:?}"));
+    }
+    let lines = sent.lines();
+    Ok(format!(
+        "{damages} plans; of each number, 0 to 5, {in_all:?}{lines}"
+    ))
+}
+
+/// Each word of one plan in turn, made no number: those that are read and no others are seen.
+pub fn every_word() -> Result<String, String> {
+    let mut rng = Rng::new(24);
+    let mut sent = Sent::default();
+    let plan = loop {
+        let plan = draw::plan(&mut rng, 40);
+        let full = |list: List| plan.count(list) == list.section().records;
+        let cut = [&plan.planes, &plan.objects].map(|pieces| cutters_of(pieces) > 0);
+        if cut == [true, true] && !List::ALL.into_iter().any(full) {
+            break plan;
+        }
+    };
+    let good = Lent::new(&plan, 0);
+    let mut lent = Lent::new(&plan, 0);
+    for i in 0..PLAN_WORDS {
+        for call in PlanCall::ALL {
+            lent.plan.copy(&good.plan);
+            lent.plan.put(i, &NOT_FINITE[2..3]);
+            try_call(&mut rng, &plan, call, &mut lent, &mut sent)?;
+        }
+    }
+    for call in PlanCall::ALL {
+        let (have, want) = (sent.0[call as usize], read_words(&plan, call));
+        if have[1..] != want {
+            let name = call.name();
+            return Err(format!(
+                "{name}: {have:?} numbers, of 1 to 5 must be {want:?}"
+            ));
+        }
+    }
+    let lines = sent.lines();
+    Ok(format!(
+        "{PLAN_WORDS} in turn; of each number, 0 to 5{lines}"
+    ))
+}
+
+/// How many words of a plan a call reads, by the number that they get when they are no number:
+/// apart from the judge.
+fn read_words(plan: &Plan, call: PlanCall) -> [usize; 5] {
+    let mut read = [0, 4, 0, 0, 0];
+    for &list in call.tests() {
+        let pieces = match list {
+            List::Planes => &plan.planes,
+            _ => &plan.objects,
+        };
+        for piece in pieces {
+            let shapes = piece.cutters.iter().chain([&piece.prim]);
+            // The blend, then kinds with their words; number of cutters and place; material.
+            read[0] += 1 + shapes.map(|prim| 1 + used(prim.kind)).sum::<usize>();
+            read[1] += 2;
+            read[2] += 1;
+        }
+    }
+    read
+}
+
+fn try_call(
+    rng: &mut Rng,
+    plan: &Plan,
+    call: PlanCall,
+    lent: &mut Lent,
+    sent: &mut Sent,
+) -> Result<(), String> {
+    let mut args = sound::args(call);
+    if call.asks() {
+        args[..3].copy_from_slice(&draw::point(rng, plan));
+        if call == PlanCall::Query {
+            args[3] = rng.pick(&[f32::MAX, 1.0, 0.0, -f32::MAX]).to_bits();
+            args[4] = rng.word();
+        }
+    } else if !call.tests().is_empty() {
+        args[MATERIAL] = 0;
+    }
+    lent.args(&args);
+    let number = check(call, lent)?;
+    sent.0[call as usize][number as usize] += 1;
+    Ok(())
+}

@@ -1,0 +1,116 @@
+//! The words of `args`.
+
+use super::{entry, kinds, Cases, ABSENT, TOO_MANY};
+use crate::cases::limits::{about, NOT_FINITE, UNKNOWN_KINDS};
+use crate::judge::{self, BAD_WORD, COORD, DONE, KINDS, NO_ROOM, POINT, RADIUS, WRONG_KIND};
+use crate::plan::call::PlanCall;
+use crate::plan::judge::{BOUND, EMISSION, NO_MATERIAL, UNIT};
+use crate::plan::layout::*;
+use crate::plan::model::used;
+use crate::plan::sound;
+
+/// Materials, lights and the two calls that ask.
+pub fn simple(cases: &mut Cases) -> Result<(), String> {
+    let light = [vec![COORD; 12], vec![EMISSION; 3]].concat();
+    let ranges = [
+        (PlanCall::AddMaterial, vec![UNIT; 5]),
+        (PlanCall::AddLight, light),
+        (PlanCall::Query, vec![POINT, POINT, POINT, BOUND]),
+        (PlanCall::DistMat, vec![POINT; 3]),
+    ];
+    for (call, ranges) in ranges {
+        cases.args(&sound::args(call));
+        for (i, range) in ranges.into_iter().enumerate() {
+            for (word, number) in about(range, DONE) {
+                cases.with_args(call, i, word, number)?;
+            }
+        }
+    }
+    cases.args(&sound::args(PlanCall::Query));
+    for word in NOT_FINITE.into_iter().chain([0, 3, 64, u32::MAX]) {
+        cases.with_args(PlanCall::Query, 4, word, DONE)?;
+    }
+    for call in PlanCall::ASKS {
+        for tree in [2, 3, 8, 0x100, 0x101, 0x1_0000, 0x8000_0000, u32::MAX] {
+            cases.lent.tree = tree;
+            cases.args(&sound::args(call));
+            cases.hold(call, &[], &[], BAD_WORD)?;
+        }
+        cases.lent.tree = 0;
+    }
+    Ok(())
+}
+
+/// A piece that is to enter.
+pub fn piece(list: List, cases: &mut Cases) -> Result<(), String> {
+    let call = entry(list);
+    for kind in kinds(list) {
+        cases.args(&sound::piece(kind, &[0]).args(|| 0));
+        shape(call, KIND, kind, cases)?;
+        for i in (PIECE_WORDS..ROW).chain(ROW + CUTTER_WORDS..2 * ROW) {
+            cases.with_args(call, i, NOT_FINITE[2], DONE)?;
+        }
+    }
+    // A cutter of each kind, as the first of one and as the last of eight.
+    let kind = sound::kind(list);
+    for cutter in 0..KINDS {
+        for place in [1, MOST_CUTTERS] {
+            let mut cutters = vec![0; place];
+            cutters[place - 1] = cutter;
+            cases.args(&sound::piece(kind, &cutters).args(|| 0));
+            shape(call, place * ROW, cutter, cases)?;
+        }
+    }
+    own_words(list, cases)?;
+    // Any kind of the other list.
+    for other in (0..KINDS).filter(|&other| kinds(list).all(|kind| kind != other)) {
+        cases.args(&sound::piece(other, &[0]).args(|| 0));
+        cases.hold(call, &[], &[], WRONG_KIND)?;
+    }
+    Ok(())
+}
+
+/// A kind and its words, of the piece or of a cutter.
+fn shape(call: PlanCall, at: usize, kind: u32, cases: &mut Cases) -> Result<(), String> {
+    for (i, &range) in judge::ranges(kind).unwrap().iter().enumerate() {
+        for (word, number) in about(range, DONE) {
+            cases.with_args(call, at + 1 + i, word, number)?;
+        }
+    }
+    for i in used(kind)..8 {
+        for word in NOT_FINITE {
+            cases.with_args(call, at + 1 + i, word, DONE)?;
+        }
+    }
+    for unknown in UNKNOWN_KINDS {
+        cases.with_args(call, at, unknown, BAD_WORD)?;
+    }
+    Ok(())
+}
+
+/// The piece's other words. Its `args` have eight cutters, so that fewer may be said.
+fn own_words(list: List, cases: &mut Cases) -> Result<(), String> {
+    let call = entry(list);
+    cases.args(&sound::piece(sound::kind(list), &[0; MOST_CUTTERS]).args(|| 0));
+    for (word, number) in about(RADIUS, DONE) {
+        cases.with_args(call, BLEND, word, number)?;
+    }
+    for material in 0..3 {
+        cases.with_args(call, MATERIAL, material, DONE)?;
+    }
+    for absent in ABSENT {
+        cases.with_args(call, MATERIAL, absent, NO_MATERIAL)?;
+    }
+    for cuts in 0..=MOST_CUTTERS {
+        cases.with_args(call, CUTS, cuts as u32, DONE)?;
+    }
+    // What stands past the last cutter is not read.
+    for cuts in 0..MOST_CUTTERS {
+        let changes = [(CUTS, cuts as u32), ((1 + cuts) * ROW, 7)];
+        cases.hold(call, &changes, &[], DONE)?;
+    }
+    for cuts in TOO_MANY {
+        cases.with_args(call, CUTS, cuts, NO_ROOM)?;
+    }
+    Ok(())
+}

@@ -1,0 +1,61 @@
+//! Comparisons of the calls that are lent a plan. `judge` says which number a call must send,
+//! `exit` what every byte must be after it, `source` what the source answers, all from document 01
+//! and VIEWER.md; `check` makes the call and compares. The other files have the cases.
+
+pub mod bench;
+mod call;
+mod check;
+mod damage;
+mod draw;
+mod empty;
+mod entries;
+mod exit;
+mod judge;
+mod layout;
+mod lengths;
+mod lent;
+mod limits;
+mod model;
+mod pairs;
+mod queries;
+mod sound;
+mod source;
+
+pub use call::PlanCall;
+pub use lent::Lent;
+
+use crate::gate::{run_parts, Part};
+
+/// What `gate` runs of it.
+pub const GATE: [Part; 7] = [
+    ("plan entries", || entries::run(10)),
+    ("plan limits", limits::run),
+    ("plan refusals", || pairs::run(2)),
+    ("plan lengths", lengths::run),
+    ("plan empty", empty::run),
+    ("plan queries", || queries::run(60, 60)),
+    ("plan damage", || damage::run(10_000)),
+];
+
+/// The same at length.
+const LONG: [Part; 8] = [
+    ("entries", || entries::run(300)),
+    ("limits", limits::run),
+    ("refusals", || pairs::run(3)),
+    ("lengths", lengths::run),
+    ("empty", empty::run),
+    ("queries", || queries::run(2_000, 100)),
+    ("words", damage::every_word),
+    ("damage", || damage::run(300_000)),
+];
+
+pub fn run() -> Result<(), String> {
+    run_parts("plan", &LONG)
+}
+
+/// One part of the long run.
+pub fn run_one(name: &str) -> Result<(), String> {
+    let part = LONG.iter().find(|part| part.0 == name);
+    let part = part.ok_or_else(|| format!("there is no part `{name}`"))?;
+    run_parts("plan", &[*part])
+}

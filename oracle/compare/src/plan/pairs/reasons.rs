@@ -1,0 +1,159 @@
+//! All the reasons that a call can have.
+
+use super::base::{Base, UPRIGHT};
+use super::reason::{Change, Of, Reason};
+use crate::call::OUT_BYTES;
+use crate::judge::{BAD_WORD, CAPSULE, NO_EXTENT, NO_ROOM, PLANE, WRONG_KIND};
+use crate::plan::call::PlanCall;
+use crate::plan::judge::NO_MATERIAL;
+use crate::plan::layout::*;
+use crate::plan::sound;
+use Change::{Args, ArgsLength, NodesLength, OrderLength, OutLength, PlanLength, Tree};
+
+const NAN: u32 = 0x7fc0_0000;
+
+/// The reasons that are gathered.
+struct Reasons(Vec<Reason>);
+
+impl Reasons {
+    fn add(&mut self, number: u32, of: Of, changes: impl Into<Vec<Change>>) {
+        let changes = changes.into();
+        self.0.push(Reason {
+            number,
+            of,
+            changes,
+        });
+    }
+}
+
+pub fn reasons(call: PlanCall, base: &Base) -> Vec<Reason> {
+    let mut reasons = Reasons(Vec::new());
+    lent(call, &mut reasons);
+    counts(call, base, &mut reasons);
+    for &list in call.tests() {
+        pieces(list, base, &mut reasons);
+    }
+    args(call, &mut reasons);
+    reasons.0
+}
+
+fn lent(call: PlanCall, reasons: &mut Reasons) {
+    reasons.add(NO_ROOM, Of::Lent, [OutLength(OUT_BYTES - 1)]);
+    reasons.add(NO_ROOM, Of::PlanLength, [PlanLength(PLAN_BYTES - 1)]);
+    let short = 4 * call.args_words() - 1;
+    reasons.add(NO_ROOM, Of::ArgsLength, [ArgsLength(short)]);
+    if call == PlanCall::AddObject {
+        reasons.add(NO_ROOM, Of::Lent, [NodesLength(NODES_BYTES - 1)]);
+        reasons.add(NO_ROOM, Of::Lent, [OrderLength(ORDER_BYTES - 1)]);
+    }
+    if call.asks() {
+        reasons.add(BAD_WORD, Of::Lent, [Tree(2)]);
+    }
+}
+
+fn counts(call: PlanCall, base: &Base, reasons: &mut Reasons) {
+    let count = |list: List, count: u32| [Change::Plan(list as usize, count)];
+    for list in List::ALL {
+        let most = list.section().records as u32;
+        reasons.add(NO_ROOM, Of::Counts, count(list, most + 1));
+        // A full list. Too many cutters would come with the objects of a crowded plan.
+        let breaks = list == List::Objects && base.crowded;
+        if call.enters() == Some(list) && !breaks {
+            reasons.add(NO_ROOM, Of::Lent, count(list, most));
+        }
+    }
+    if base.crowded && call.tests().contains(&List::Objects) {
+        let objects = base.table[List::Objects as usize];
+        for more in 1..=2 {
+            reasons.add(NO_ROOM, Of::Places, count(List::Objects, objects + more));
+        }
+    }
+}
+
+/// What takes the extent of an upright capsule whose kind stands at a place. The kind is named
+/// too, so that this does not go together with another kind.
+fn flat(at: usize) -> [(usize, u32); 2] {
+    [(at, CAPSULE), (at + 5, UPRIGHT[1].to_bits())]
+}
+
+/// What makes a plane of a shape whose kind stands at a place.
+fn plane(at: usize) -> [(usize, u32); 4] {
+    [(at, PLANE), (at + 1, 0), (at + 2, 0), (at + 3, 0)]
+}
+
+/// What makes a capsule of no extent of any shape.
+fn flat_from_any(at: usize) -> [(usize, u32); 8] {
+    std::array::from_fn(|i| (at + i, if i == 0 { CAPSULE } else { 0 }))
+}
+
+fn pieces(list: List, base: &Base, reasons: &mut Reasons) {
+    let plan = |(i, word)| Change::Plan(i, word);
+    let at = list.section().at(0);
+    let place = base.table[at + PLACE];
+    let own = [
+        (NO_MATERIAL, (at + MATERIAL, 3)),
+        (BAD_WORD, (at + BLEND, NAN)),
+        (BAD_WORD, (at + KIND, 7)),
+        (BAD_WORD, (at + SHAPE, NAN)),
+    ];
+    for (number, change) in own {
+        reasons.add(number, Of::Pieces, [plan(change)]);
+    }
+    reasons.add(NO_ROOM, Of::Places, [plan((at + CUTS, 9))]);
+    reasons.add(NO_ROOM, Of::Places, [plan((at + PLACE, place ^ 1))]);
+    if list == List::Planes {
+        reasons.add(WRONG_KIND, Of::Pieces, [plan((at + KIND, 0))]);
+        // It is of a wrong kind too, but 4 comes before 5.
+        reasons.add(NO_EXTENT, Of::Pieces, flat_from_any(at + KIND).map(plan));
+    } else {
+        reasons.add(NO_EXTENT, Of::Pieces, flat(at + KIND).map(plan));
+        let last = list.section().at(base.table[list as usize] as usize - 1);
+        reasons.add(WRONG_KIND, Of::Pieces, plane(last + KIND).map(plan));
+        reasons.add(NO_MATERIAL, Of::Pieces, [plan((last + MATERIAL, u32::MAX))]);
+        reasons.add(NO_ROOM, Of::Places, [plan((last + CUTS, 9))]);
+    }
+    let cutter = CUTTERS.at(place as usize);
+    reasons.add(NO_EXTENT, Of::Cutters, flat(cutter).map(plan));
+    for change in [(cutter, 7), (cutter + 1, NAN), (cutter + ROW, u32::MAX)] {
+        reasons.add(BAD_WORD, Of::Cutters, [plan(change)]);
+    }
+}
+
+fn args(call: PlanCall, reasons: &mut Reasons) {
+    let given = |(i, word)| Args(i, word);
+    match call {
+        PlanCall::AddMaterial | PlanCall::DistMat => {
+            reasons.add(BAD_WORD, Of::Args, [Args(0, NAN)]);
+        }
+        PlanCall::Query => {
+            reasons.add(BAD_WORD, Of::Args, [Args(0, NAN)]);
+            reasons.add(BAD_WORD, Of::Args, [Args(3, NAN)]);
+        }
+        PlanCall::AddLight => {
+            reasons.add(BAD_WORD, Of::Args, [Args(12, NAN)]);
+            // The second corner at the first; the fourth at the first; the fourth at the second.
+            for (corner, at) in [(3, 0), (9, 0), (9, 3)] {
+                let word = |i: usize| Args(corner + i, sound::LIGHT[at + i].to_bits());
+                reasons.add(NO_EXTENT, Of::Args, [0, 1, 2].map(word));
+            }
+        }
+        PlanCall::AddPlane | PlanCall::AddObject => {
+            reasons.add(NO_MATERIAL, Of::Args, [Args(MATERIAL, 3)]);
+            reasons.add(BAD_WORD, Of::Args, [Args(BLEND, NAN)]);
+            reasons.add(BAD_WORD, Of::Args, [Args(KIND, 7)]);
+            reasons.add(NO_ROOM, Of::ArgsEnd, [Args(CUTS, 9)]);
+            reasons.add(NO_ROOM, Of::ArgsEnd, [ArgsLength(4 * 3 * ROW - 1)]);
+            reasons.add(NO_ROOM, Of::ArgsEnd, [ArgsLength(4 * ROW)]);
+            reasons.add(BAD_WORD, Of::ArgsCutters, [Args(ROW, 7)]);
+            reasons.add(BAD_WORD, Of::ArgsCutters, [Args(2 * ROW + 4, NAN)]);
+            reasons.add(NO_EXTENT, Of::ArgsCutters, flat(ROW).map(given));
+            if call == PlanCall::AddPlane {
+                reasons.add(WRONG_KIND, Of::Args, [Args(KIND, 0)]);
+                reasons.add(NO_EXTENT, Of::Args, flat_from_any(KIND).map(given));
+            } else {
+                reasons.add(WRONG_KIND, Of::Args, plane(KIND).map(given));
+                reasons.add(NO_EXTENT, Of::Args, flat(KIND).map(given));
+            }
+        }
+    }
+}

@@ -1,0 +1,67 @@
+//! Chosen values well inside the domain, of which single words are then changed.
+
+use super::call::PlanCall;
+use super::layout::{List, LIGHT_WORDS};
+use super::model::{Light, Material, Piece, Plan, Prim};
+use crate::cases::limits;
+use crate::judge::PLANE;
+
+pub const MATERIAL: [f32; 5] = [0.75, 0.5, 0.25, 0.5, 1.0];
+
+/// A skew panel: no change of one word makes it flat.
+pub const LIGHT: [f32; LIGHT_WORDS] = [
+    0.5, 3.0, 0.25, 2.5, 3.5, -0.5, 3.0, 3.25, 2.0, 0.75, 2.75, 2.5, 1.0, 20.0, 0.5,
+];
+
+pub fn material() -> Material {
+    MATERIAL.map(f32::to_bits)
+}
+
+pub fn light() -> Light {
+    LIGHT.map(f32::to_bits)
+}
+
+pub fn prim(kind: u32) -> Prim {
+    Prim::new(kind, &limits::sound(kind)[1..9])
+}
+
+/// A piece of a kind, less cutters of these kinds.
+pub fn piece(kind: u32, cutters: &[u32]) -> Piece {
+    Piece {
+        material: 1,
+        blend: 0.25f32.to_bits(),
+        prim: prim(kind),
+        cutters: cutters.iter().map(|&kind| prim(kind)).collect(),
+    }
+}
+
+/// Three materials, two planes, a light and three objects; some of the pieces have cutters.
+pub fn plan() -> Plan {
+    Plan {
+        materials: vec![material(); 3],
+        planes: vec![piece(PLANE, &[0]), piece(PLANE, &[3, 5])],
+        lights: vec![light()],
+        objects: vec![piece(0, &[3, 2]), piece(3, &[]), piece(6, &[4, 1, 6])],
+    }
+}
+
+/// Args that the call accepts on that plan. A piece has two cutters.
+pub fn args(call: PlanCall) -> Vec<u32> {
+    let point = [1.0, -2.0, 3.5].map(f32::to_bits);
+    match call {
+        PlanCall::AddMaterial => material().to_vec(),
+        PlanCall::AddLight => light().to_vec(),
+        PlanCall::AddPlane => piece(PLANE, &[3, 0]).args(|| 0),
+        PlanCall::AddObject => piece(3, &[3, 0]).args(|| 0),
+        PlanCall::Query => [&point[..], &[100f32.to_bits(), 77]].concat(),
+        PlanCall::DistMat => point.to_vec(),
+    }
+}
+
+/// A kind that a piece of the list may have.
+pub fn kind(list: List) -> u32 {
+    match list {
+        List::Planes => PLANE,
+        _ => 1,
+    }
+}
