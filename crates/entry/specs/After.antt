@@ -1,0 +1,52 @@
+-- What an accepted entry of a piece makes of the decoded plan: the old one with the new piece at the end of its list, and nothing else changed. Definitions only.
+use Prim.Native.Nat.{ℕ, _*_, _≤_, _<_}
+use mathlib.Core.Path.{_≡_}
+use mathlib.Core.Bool.{Bool, true, false, not, cond}
+use mathlib.Core.List.{List, [], _∷_, _++_}
+use lib.ListN.{getD}
+use lib.Ieee.{Float}
+use Rattle.sdf.specs.declared.Shape.{Shape}
+use Rattle.words.specs.Lists.{listFrom}
+use Rattle.words.specs.Words.{floatsOf}
+use Rattle.scene.specs.declared.Head.{Head}
+use Rattle.scene.specs.Model.{Piece, wordOf, floatOf, primOf, piecesFrom, countMaterials, countLights}
+use Rattle.sound.specs.Sound.{solidsOf}
+use Rattle.entry.specs.Entry.{countOf, rowOf}
+
+-- a plan's words seen as floats
+abbrev pub seen : List ℕ → List Float
+seen w = floatsOf w 22288
+
+unfoldable pub argShape : List ℕ → List Float → ℕ → Shape
+argShape aw af r = primOf aw af (16 * r)
+
+-- the piece that the arguments stand for, its first cutter at a place
+unfoldable pub givenPiece : List ℕ → List Float → ℕ → Piece
+givenPiece aw af place =
+    record {
+      head =
+          record {
+            material = wordOf aw 0;
+            blend = floatOf af 1;
+            cutters = wordOf aw 2;
+            kind = wordOf aw 3;
+            shape = primOf aw af 3;
+            place = place;
+          };
+      cuts = listFrom (argShape aw af) 1 (wordOf aw 2);
+    }
+
+-- the planes, or the objects
+abbrev pub piecesOf : Bool → List ℕ → List Piece
+piecesOf planes w = piecesFrom w (seen w) (rowOf planes) (countOf planes w)
+
+-- p has entered among planes, or among objects
+pub record Entered (planes : Bool) (w : List ℕ) (p : Piece) (w′ : List ℕ) : Type 0 where
+  pub own : piecesOf planes w′ ≡ piecesOf planes w ++ (p ∷ [])
+  pub other : piecesOf (not planes) w′ ≡ piecesOf (not planes) w
+  -- materials stand in the words from 16, lights in those from 1,296 up to 1,808
+  pub materials : (i : ℕ) → 16 ≤ i → i < 1040 → getD w′ i 0 ≡ getD w i 0
+  pub lights : (i : ℕ) → 1296 ≤ i → i < 1808 → getD w′ i 0 ≡ getD w i 0
+  pub counts : (countMaterials w′ ≡ countMaterials w) × (countLights w′ ≡ countLights w)
+  -- and the plan is in order again
+  pub sound : solidsOf w′ (seen w′) .number ≡ 0
