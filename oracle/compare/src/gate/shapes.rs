@@ -7,13 +7,10 @@ use crate::judge::{DONE, KINDS};
 use crate::rng::Rng;
 use crate::words;
 
-const CASES: usize = 3_000_000;
+const CASES: usize = 9_000_000;
 
-/// Bounds of one shape in this many.
-const BOUNDS_EVERY: usize = 4;
-
-/// So few answers of some kind would mean that the cases are badly drawn.
-const LEAST_OF_A_KIND: usize = CASES / 10;
+/// Each kind is to be compared so often at the least.
+const LEAST_OF_A_KIND: usize = 1_000_000;
 
 pub fn run() -> Result<String, String> {
     let mut rng = Rng::new(2);
@@ -21,14 +18,12 @@ pub fn run() -> Result<String, String> {
     let mut args = [0; 4 * MOST_ARGS];
     let mut distances = [0; KINDS as usize];
     let mut bounds = [0; KINDS as usize];
-    for i in 0..CASES {
+    for _ in 0..CASES {
         let words = draw::prim_args(&mut rng);
         let kind = words[0] as usize;
         words::put(&mut args, &words);
         distances[kind] += usize::from(check(Call::PrimDist, &args, &mut out)? == DONE);
-        if i % BOUNDS_EVERY == 0 {
-            bounds[kind] += usize::from(check(Call::PrimBounds, &args, &mut out)? == DONE);
-        }
+        bounds[kind] += usize::from(check(Call::PrimBounds, &args, &mut out)? == DONE);
     }
     if distances.iter().any(|&n| n < LEAST_OF_A_KIND) {
         return Err(format!("too few distances of some kind: {distances:?}"));
