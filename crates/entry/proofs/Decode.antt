@@ -88,6 +88,18 @@ used-most k j h = most (eqb k 0 || eqb k 2) (eqb k 4) (eqb k 6) h
     most false false true p = omega arith
     most false false false p = omega arith
 
+-- what holds of each of eight
+pub each8 : (P : ℕ → Type 0) → P 0 → P 1 → P 2 → P 3 → P 4 → P 5 → P 6 → P 7 → (k : ℕ) → k < 8 → P k
+each8 P a b c d e f g h zero p = a
+each8 P a b c d e f g h (suc zero) p = b
+each8 P a b c d e f g h (suc (suc zero)) p = c
+each8 P a b c d e f g h (suc (suc (suc zero))) p = d
+each8 P a b c d e f g h (suc (suc (suc (suc zero)))) p = e
+each8 P a b c d e f g h (suc (suc (suc (suc (suc zero))))) p = f
+each8 P a b c d e f g h (suc (suc (suc (suc (suc (suc zero)))))) p = g
+each8 P a b c d e f g h (suc (suc (suc (suc (suc (suc (suc zero))))))) p = h
+each8 P a b c d e f g h (suc (suc (suc (suc (suc (suc (suc (suc k)))))))) p = absurd (omega arith)
+
 -- a primitive whose words were kept as its kind uses them
 pub prim-kept : (v w : List ℕ) (m n i j : ℕ) → i + 8 < m → j + 8 < n → getD w j 0 ≤ 6 → getD v i 0 ≡ getD w j 0 → ((k : ℕ) → k < 8 → getD v (i + suc k) 0 ≡ kept w (j + 1) (getD w j 0) k) → primOf v (floatsOf v m) i ≡ primOf w (floatsOf w n) j
 unfolding kept

@@ -1,3 +1,5 @@
 pub mod Lists
 pub mod Writes
 pub mod Decode
+pub mod Accepts
+pub mod Keeps
