@@ -3,3 +3,5 @@ pub mod Writes
 pub mod Decode
 pub mod Accepts
 pub mod Keeps
+pub mod Stands
+pub mod After
