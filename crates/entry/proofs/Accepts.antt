@@ -1,18 +1,17 @@
 -- What an entry that gets 0 was given: a plan in order, room for the piece and its cutters, and a piece in order. Test by test. Assumes nothing.
 use Prim.Native.Nat.{ℕ, zero, suc, _+_, _*_, _<_, _≤_}
-use mathlib.Core.Path.{_≡_, refl, sym, _∙_, ap}
-use mathlib.Core.Bool.{Bool, true, false, cond, _&&_, and-eq-true-iff}
-use mathlib.Core.List.{List, [], _∷_}
+use mathlib.Core.Path.{_≡_, refl}
+use mathlib.Core.Bool.{Bool, cond, _&&_, and-eq-true-iff}
+use mathlib.Core.List.{List}
 use lib.ListN.{getD}
 use lib.Dec.{leb, ltb}
 use lib.Ieee.{Float}
 use borrow.Author.Tests.{leb-true, ltb-true}
 use Rattle.words.specs.Lists.{listFrom}
 use Rattle.rules.specs.Refusals.{lower, unless, noRoom}
-use Rattle.scene.specs.declared.Head.{Head}
-use Rattle.scene.specs.Model.{wordOf, primOf, headAt, countMaterials}
+use Rattle.scene.specs.Model.{primOf, headAt, countMaterials}
 use Rattle.sound.specs.declared.Solids.{Solids}
-use Rattle.sound.specs.Sound.{ownNumber, lowest, solidsOf}
+use Rattle.sound.specs.Sound.{ownNumber, lowest}
 use Rattle.sound.specs.Exact.{PrimOk, PieceOk}
 use Rattle.sound.proofs.Numbers.{cond-zero, lower-zero, own-exact, prim-exact, lowest-exact, Each}
 use Rattle.args.specs.Args.{argCutter, argCutters, argsNumber}

@@ -2,19 +2,18 @@
 use Prim.Native.Nat.{ℕ, zero, suc, _+_, _*_, _<_, _≤_}
 use mathlib.Core.Path.{_≡_, refl, sym, _∙_, ap}
 use mathlib.Core.Bool.{Bool, true, false, cond, _||_}
-use mathlib.Core.List.{List, [], _∷_, _++_}
+use mathlib.Core.List.{List}
 use native.Mathlib.Nat.{add-zero}
 use native.Mathlib.Omega.{arith}
-use lib.ListN.{length, getD}
-use lib.Dec.{eqb, ltb}
+use lib.ListN.{getD}
+use lib.Dec.{eqb}
 use lib.Ieee.{Float, binary32, ofBits, nan}
 use borrow.Author.Tests.{lt-ltb}
 use Rattle.sdf.specs.declared.Shape.{Shape}
 use Rattle.rules.specs.Prims.{shapeOf}
 use Rattle.words.specs.Lists.{listFrom}
 use Rattle.words.specs.Words.{floatAt, floatsOf}
-use Rattle.scene.specs.declared.Head.{Head}
-use Rattle.scene.specs.Model.{wordOf, floatOf, primOf, cutterKind, cutterAt, headAt}
+use Rattle.scene.specs.Model.{floatOf, primOf, cutterKind, cutterAt, headAt}
 use Rattle.entry.specs.Entry.{usedWords, kept}
 
 -- ---- lists made of a function of the index

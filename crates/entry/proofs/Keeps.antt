@@ -2,15 +2,14 @@
 use Prim.Native.Nat.{ℕ, zero, suc, _+_, _*_, _<_, _≤_}
 use mathlib.Core.Path.{_≡_, refl, sym, _∙_, ap}
 use mathlib.Core.Logic.{_⊎_, ⊎-elim, inl, inr}
-use mathlib.Core.List.{List, [], _∷_, _++_}
+use mathlib.Core.List.{List}
 use native.Mathlib.Omega.{arith}
 use lib.ListN.{length, getD}
 use lib.Ieee.{Float}
 use Rattle.sdf.specs.declared.Shape.{Shape}
-use Rattle.words.specs.Lists.{listFrom}
 use Rattle.words.specs.Words.{floatsOf}
 use Rattle.scene.specs.declared.Head.{Head}
-use Rattle.scene.specs.Model.{Piece, wordOf, floatOf, primOf, cutterKind, cutterAt, headAt, cuttersFrom, pieceAt}
+use Rattle.scene.specs.Model.{floatOf, primOf, cutterKind, cutterAt, headAt, cuttersFrom, pieceAt}
 use Rattle.entry.specs.Entry.{kept, pieceWords, cutterWords}
 use Rattle.entry.specs.After.{seen, argShape, givenPiece}
 use Rattle.entry.proofs.Writes.{written, at-row, at-cutter, elsewhere}

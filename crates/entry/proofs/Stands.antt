@@ -1,19 +1,19 @@
 -- A plan in order stays so when a row and its cutters enter beside the old ones. By the places that the old pieces use, piece by piece. Assumes nothing.
 use Prim.Native.Nat.{ℕ, zero, suc, _+_, _*_, _<_, _≤_}
 use mathlib.Core.Path.{_≡_, refl, sym, _∙_, ap}
-use mathlib.Core.Logic.{_⊎_, ⊎-elim, inl, inr}
+use mathlib.Core.Logic.{_⊎_, inl, inr}
 use mathlib.Core.Bool.{Bool, true, false}
 use mathlib.Core.List.{List, [], _∷_, _++_}
-use native.Mathlib.Nat.{le-of-suc-le-suc, eq-or-lt-of-le}
+use native.Mathlib.Nat.{eq-or-lt-of-le}
 use native.Mathlib.Omega.{arith}
-use lib.ListN.{length, getD}
+use lib.ListN.{getD}
 use lib.Ieee.{Float}
 use Rattle.words.specs.Lists.{listFrom}
 use Rattle.words.specs.Words.{floatsOf}
 use Rattle.words.proofs.Runs.{from-snoc}
 use Rattle.scene.specs.declared.Head.{Head}
-use Rattle.scene.specs.Model.{Piece, primOf, cutterKind, cutterAt, headAt, pieceAt, piecesFrom, countMaterials, countPlanes, countObjects, countLights}
-use Rattle.sound.specs.Exact.{PrimOk, PieceOk, cuttersBefore, PlaceIs, PiecesOk, CountsOk, SoundSolids}
+use Rattle.scene.specs.Model.{Piece, primOf, cutterKind, cutterAt, headAt, pieceAt, piecesFrom, countMaterials, countPlanes, countObjects}
+use Rattle.sound.specs.Exact.{PrimOk, PieceOk, cuttersBefore, PlaceIs, PiecesOk, SoundSolids}
 use Rattle.sound.proofs.Numbers.{each-more}
 use Rattle.entry.specs.After.{seen, argShape, givenPiece}
 use Rattle.entry.proofs.Decode.{from-same}
