@@ -29,7 +29,7 @@ module _ (w aw : List ℕ) (c v row place : ℕ) (len : length w ≡ 22288) (lc 
   abbrev left : List ℕ
   left = written w aw c v row place n
 
-  -- a word that is not the count, before the rows of pieces or in the rows of lights
+  -- a word before the cutters, neither the count nor in the new row
   other-word : (i : ℕ) → (i ≡ c → ⊥) → (i < 16 * row) ⊎ (16 * row + 16 ≤ i) → i < 5904 → getD left i 0 ≡ getD w i 0
   other-word i a b h = elsewhere w aw c v row place n len lc lr hr fit i a b (inl (omega arith))
 

@@ -156,10 +156,7 @@ module _ (w aw v : List ℕ) (row place n : ℕ) (laid : Laid w aw v row place n
       let new : pieceAt v (seen v) (r + m) ≡ given aw place = ap (pieceAt v (seen v)) (sym e) ∙ laid .newPiece in
       from-snoc (pieceAt v (seen v)) r m
       ∙ ap (λ (p : Piece). listFrom (pieceAt v (seen v)) r m ++ (p ∷ [])) new
-      ∙ ap (λ (l : List Piece). l ++ (given aw place ∷ [])) stand
-    where
-      stand : listFrom (pieceAt v (seen v)) r m ≡ listFrom (pieceAt w (seen w)) r m
-      stand = from-same (pieceAt v (seen v)) (pieceAt w (seen w)) r r m (λ j h. laid .piece (r + j) (heads-stand j h) (apart j h))
+      ∙ ap (λ (l : List Piece). l ++ (given aw place ∷ [])) pieces-stand
 
   new-head : row ≡ r + m → headAt v (seen v) (r + m) ≡ given aw place .head
   new-head e = ap (headAt v (seen v)) (sym e) ∙ laid .newHead
