@@ -5,3 +5,4 @@ pub mod Accepts
 pub mod Keeps
 pub mod Stands
 pub mod After
+pub mod Records

@@ -38,14 +38,14 @@ module _ (w : List ℕ) (f : List Float) (r : ℕ) where
   before-more j = refl
 
   -- the last place of a plane's cutters is below 1,024, the first not below what the planes leave; an object's are below what the objects use
-  planes-reach : (n j k : ℕ) → PiecesOk true w f r n → j < n → k < headAt w f (r + j) .cutters → (headAt w f (r + j) .place + k < 1024) × (1024 ≤ headAt w f (r + j) .place + k + cuttersBefore w f r n)
+  pub planes-reach : (n j k : ℕ) → PiecesOk true w f r n → j < n → k < headAt w f (r + j) .cutters → (headAt w f (r + j) .place + k < 1024) × (1024 ≤ headAt w f (r + j) .place + k + cuttersBefore w f r n)
   planes-reach n j k ok h q =
       let p : headAt w f (r + j) .place + cuttersBefore w f r (suc j) ≡ 1024 = ok .place j h in
       let m : cuttersBefore w f r (suc j) ≤ cuttersBefore w f r n = before-most n (suc j) (omega arith) in
       let s = before-more j in
       (omega arith, omega arith)
 
-  objects-reach : (n j k : ℕ) → PiecesOk false w f r n → j < n → k < headAt w f (r + j) .cutters → headAt w f (r + j) .place + k < cuttersBefore w f r n
+  pub objects-reach : (n j k : ℕ) → PiecesOk false w f r n → j < n → k < headAt w f (r + j) .cutters → headAt w f (r + j) .place + k < cuttersBefore w f r n
   objects-reach n j k ok h q =
       let p : headAt w f (r + j) .place ≡ cuttersBefore w f r j = ok .place j h in
       let m : cuttersBefore w f r (suc j) ≤ cuttersBefore w f r n = before-most n (suc j) (omega arith) in

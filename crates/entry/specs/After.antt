@@ -1,5 +1,5 @@
--- What an accepted entry of a piece makes of the decoded plan: the old one with the new piece at the end of its list, and nothing else changed. Definitions only.
-use Prim.Native.Nat.{ℕ, _*_, _≤_, _<_}
+-- What an accepted entry makes of the decoded plan: the old one with what entered at the end of its list, and nothing else changed. Definitions only.
+use Prim.Native.Nat.{ℕ, _+_, _*_, _≤_, _<_}
 use mathlib.Core.Path.{_≡_}
 use mathlib.Core.Bool.{Bool, true, false, not, cond}
 use mathlib.Core.List.{List, [], _∷_, _++_}
@@ -11,6 +11,9 @@ use Rattle.words.specs.Words.{floatsOf}
 use Rattle.scene.specs.declared.Head.{Head}
 use Rattle.scene.specs.Model.{Piece, wordOf, floatOf, primOf, piecesFrom, countMaterials, countLights}
 use Rattle.sound.specs.Sound.{solidsOf}
+use Rattle.args.specs.declared.Material.{Material}
+use Rattle.args.specs.declared.QuadLight.{QuadLight}
+use Rattle.args.specs.Records.{materialOf, lightOf}
 use Rattle.entry.specs.Entry.{countOf, rowOf}
 
 -- a plan's words seen as floats
@@ -39,6 +42,32 @@ givenPiece aw af place =
 -- the planes, or the objects
 abbrev pub piecesOf : Bool → List ℕ → List Piece
 piecesOf planes w = piecesFrom w (seen w) (rowOf planes) (countOf planes w)
+
+-- a material stands in row 1 + its number, a light in the row 81 + twice its number and the next
+unfoldable pub materialAt : List ℕ → ℕ → Material
+materialAt w m = materialOf (seen w) (16 * (1 + m))
+
+unfoldable pub lightAt : List ℕ → ℕ → QuadLight
+lightAt w l = lightOf (seen w) (16 * (81 + 2 * l))
+
+abbrev pub materialsOf : List ℕ → List Material
+materialsOf w = listFrom (materialAt w) 0 (countMaterials w)
+
+abbrev pub lightsOf : List ℕ → List QuadLight
+lightsOf w = listFrom (lightAt w) 0 (countLights w)
+
+-- m, or l, has entered
+pub record MaterialEntered (w : List ℕ) (m : Material) (w′ : List ℕ) : Type 0 where
+  pub own : materialsOf w′ ≡ materialsOf w ++ (m ∷ [])
+  pub lights : lightsOf w′ ≡ lightsOf w
+  pub pieces : (planes : Bool) → piecesOf planes w′ ≡ piecesOf planes w
+  pub sound : solidsOf w′ (seen w′) .number ≡ 0
+
+pub record LightEntered (w : List ℕ) (l : QuadLight) (w′ : List ℕ) : Type 0 where
+  pub own : lightsOf w′ ≡ lightsOf w ++ (l ∷ [])
+  pub materials : materialsOf w′ ≡ materialsOf w
+  pub pieces : (planes : Bool) → piecesOf planes w′ ≡ piecesOf planes w
+  pub sound : solidsOf w′ (seen w′) .number ≡ 0
 
 -- p has entered among planes, or among objects
 pub record Entered (planes : Bool) (w : List ℕ) (p : Piece) (w′ : List ℕ) : Type 0 where

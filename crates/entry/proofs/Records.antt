@@ -1,0 +1,100 @@
+-- An accepted material or light enters at the end of its list, nothing else changes, and a plan in order stays so: only its own rows and its count are
+-- written, and no piece stands there. Assumes nothing.
+use Prim.Native.Nat.{ℕ, zero, suc, _+_, _*_, _<_, _≤_}
+use mathlib.Core.Path.{_≡_, refl, sym, _∙_, ap}
+use mathlib.Core.Logic.{_⊎_, inl, inr}
+use mathlib.Core.Bool.{Bool, true, false, _&&_, and-eq-true-iff}
+use mathlib.Core.List.{List, [], _∷_, _++_}
+use native.Mathlib.Numerals.{add-one}
+use native.Mathlib.Omega.{arith}
+use lib.ListN.{length, getD, set, length-set}
+use lib.Seq.{sets, getD-set-same, getD-set-other, length-sets}
+use lib.Dec.{ltb}
+use lib.Ieee.{Float}
+use borrow.Author.Tests.{ltb-true, lt-ltb}
+use Rattle.vec.specs.declared.Vec3.{Vec3}
+use Rattle.words.specs.Lists.{listFrom}
+use Rattle.words.specs.Words.{floatsOf}
+use Rattle.words.proofs.Runs.{from-snoc}
+use Rattle.rules.specs.Refusals.{lower, unless}
+use Rattle.args.specs.declared.Material.{Material}
+use Rattle.args.specs.declared.QuadLight.{QuadLight}
+use Rattle.args.specs.Records.{materialOf, lightOf}
+use Rattle.scene.specs.declared.Head.{Head}
+use Rattle.scene.specs.Model.{Piece, floatOf, vecOf, cutterKind, cutterAt, headAt, pieceAt, cuttersFrom, piecesFrom, countMaterials, countPlanes, countLights, countObjects}
+use Rattle.sound.specs.Sound.{countsOk, solidsOf}
+use Rattle.sound.specs.Exact.{PieceOk, cuttersBefore, PiecesOk, CountsOk, SoundSolids}
+use Rattle.sound.proofs.Numbers.{lower-zero, cond-zero}
+use Rattle.sound.proofs.Exact.{solids-exact}
+use Rattle.entry.specs.Entry.{oneMore, recordNumber, materialWords, lightWords, zeros16, withMaterial, withLight}
+use Rattle.entry.specs.After.{seen, piecesOf, materialAt, lightAt, materialsOf, lightsOf, MaterialEntered, LightEntered}
+use Rattle.entry.proofs.Decode.{from-same, float-of, kind-same, cutter-same, head-same}
+use Rattle.entry.proofs.Writes.{getD-sets-out, getD-sets-in}
+use Rattle.entry.proofs.Stands.{before-same, planes-reach, objects-reach}
+
+-- the words where planes, objects and cutters stand
+abbrev Solid : ℕ → Type 0
+Solid i = ((1040 ≤ i) × (i < 1296)) ⊎ (1808 ≤ i)
+
+module _ (w v : List ℕ) (agree : (i : ℕ) → Solid i → getD v i 0 ≡ getD w i 0) where
+  head-keeps : (r : ℕ) → ((65 ≤ r) × (r < 81)) ⊎ (113 ≤ r) → r < 369 → headAt v (seen v) r ≡ headAt w (seen w) r
+  head-keeps r (inl a) h = head-same v w 22288 r (omega arith) (λ k p. agree (16 * r + k) (inl (omega arith, omega arith)))
+  head-keeps r (inr a) h = head-same v w 22288 r (omega arith) (λ k p. agree (16 * r + k) (inr (omega arith)))
+
+  cutter-keeps : (c : ℕ) → c < 1024 → cutterAt v (seen v) c ≡ cutterAt w (seen w) c
+  cutter-keeps c h = cutter-same v w 22288 c (omega arith) (λ k p. agree (5904 + 16 * c + k) (inr (omega arith)))
+
+  kind-keeps : (c : ℕ) → cutterKind v c ≡ cutterKind w c
+  kind-keeps c = kind-same v w c (agree (5904 + 16 * c) (inr (omega arith)))
+
+  -- n pieces from row r on whose cutters lie in the table
+  module _ (planes : Bool) (r n : ℕ) (heads : (j : ℕ) → j < n → headAt v (seen v) (r + j) ≡ headAt w (seen w) (r + j))
+      (reach : (j : ℕ) → j < n → (k : ℕ) → k < headAt w (seen w) (r + j) .cutters → headAt w (seen w) (r + j) .place + k < 1024) where
+    pieces-keep : piecesFrom v (seen v) r n ≡ piecesFrom w (seen w) r n
+    unfolding piecesFrom pieceAt cuttersFrom
+    pieces-keep =
+        from-same (pieceAt v (seen v)) (pieceAt w (seen w)) r r n
+        (λ j h.
+        let p : ℕ = headAt w (seen w) (r + j) .place in
+        let cuts = from-same (cutterAt v (seen v)) (cutterAt w (seen w)) p p (headAt w (seen w) (r + j) .cutters) (λ k q. cutter-keeps (p + k) (reach j h k q)) in
+        rw (heads j h, cuts))
+
+    ok-keep : countMaterials w ≤ countMaterials v → PiecesOk planes w (seen w) r n → PiecesOk planes v (seen v) r n
+    ok-keep more ok =
+        record {
+          own = λ j h.
+              let o = ok .own j h in
+              let m : headAt w (seen w) (r + j) .material < countMaterials v = omega (arith, o .material) in
+              rw (heads j h) (record { prim = o .prim; blend = o .blend; material = m; list = o .list });
+          few = λ j h. rw (heads j h) (ok .few j h);
+          place = λ j h. rw (heads j h, before-same planes w v (seen w) (seen v) r n heads j (omega arith), before-same planes w v (seen w) (seen v) r n heads (suc j) h) (ok .place j h);
+          cutter = λ j h k q.
+              let q′ : k < headAt w (seen w) (r + j) .cutters = rw (sym (heads j h)) q in
+              rw (heads j h, kind-keeps (headAt w (seen w) (r + j) .place + k), cutter-keeps (headAt w (seen w) (r + j) .place + k) (reach j h k q′)) (ok .cutter j h k q′);
+        }
+
+  module _ (s : SoundSolids w (seen w)) where
+    planes-heads : (j : ℕ) → j < countPlanes w → headAt v (seen v) (65 + j) ≡ headAt w (seen w) (65 + j)
+    planes-heads j h = let c = s .counts .planes in head-keeps (65 + j) (inl (omega arith, omega arith)) (omega arith)
+
+    objects-heads : (j : ℕ) → j < countObjects w → headAt v (seen v) (113 + j) ≡ headAt w (seen w) (113 + j)
+    objects-heads j h = let c = s .counts .objects in head-keeps (113 + j) (inr (omega arith)) (omega arith)
+
+    planes-in : (j : ℕ) → j < countPlanes w → (k : ℕ) → k < headAt w (seen w) (65 + j) .cutters → headAt w (seen w) (65 + j) .place + k < 1024
+    planes-in j h k q = planes-reach w (seen w) 65 (countPlanes w) j k (s .planes) h q .0
+
+    objects-in : (j : ℕ) → j < countObjects w → (k : ℕ) → k < headAt w (seen w) (113 + j) .cutters → headAt w (seen w) (113 + j) .place + k < 1024
+    objects-in j h k q = let p = objects-reach w (seen w) 113 (countObjects w) j k (s .objects) h q in let l = s .room in omega arith
+
+    pub pieces-stay : countPlanes v ≡ countPlanes w → countObjects v ≡ countObjects w → (planes : Bool) → piecesOf planes v ≡ piecesOf planes w
+    pieces-stay p o true = rw p (pieces-keep true 65 (countPlanes w) planes-heads planes-in)
+    pieces-stay p o false = rw o (pieces-keep false 113 (countObjects w) objects-heads objects-in)
+
+    pub sound-stays : CountsOk v → countMaterials w ≤ countMaterials v → countPlanes v ≡ countPlanes w → countObjects v ≡ countObjects w → SoundSolids v (seen v)
+    sound-stays c more p o =
+        record {
+          counts = c;
+          planes = rw p (ok-keep true 65 (countPlanes w) planes-heads planes-in more (s .planes));
+          objects = rw o (ok-keep false 113 (countObjects w) objects-heads objects-in more (s .objects));
+          room = rw (p, o, before-same true w v (seen w) (seen v) 65 (countPlanes w) planes-heads (countPlanes w) (omega arith), before-same false w v (seen w) (seen v) 113 (countObjects w) objects-heads (countObjects w) (omega arith)) (s .room);
+        }
