@@ -5,12 +5,13 @@ use mathlib.Core.Path.{_≡_, refl, sym, _∙_, ap}
 use mathlib.Core.Logic.{_⊎_, inl, inr}
 use mathlib.Core.Bool.{Bool, true, false, _&&_, and-eq-true-iff}
 use mathlib.Core.List.{List, [], _∷_, _++_}
+use native.Mathlib.Nat.{add-zero}
 use native.Mathlib.Numerals.{add-one}
 use native.Mathlib.Omega.{arith}
 use lib.ListN.{length, getD, set, length-set}
 use lib.Seq.{sets, getD-set-same, getD-set-other, length-sets}
 use lib.Dec.{ltb}
-use lib.Ieee.{Float}
+use lib.Ieee.{Float, binary32, ofBits}
 use borrow.Author.Tests.{ltb-true, lt-ltb}
 use Rattle.vec.specs.declared.Vec3.{Vec3}
 use Rattle.words.specs.Lists.{listFrom}
@@ -24,7 +25,7 @@ use Rattle.scene.specs.declared.Head.{Head}
 use Rattle.scene.specs.Model.{Piece, floatOf, vecOf, cutterKind, cutterAt, headAt, pieceAt, cuttersFrom, piecesFrom, countMaterials, countPlanes, countLights, countObjects}
 use Rattle.sound.specs.Sound.{countsOk, solidsOf}
 use Rattle.sound.specs.Exact.{PieceOk, cuttersBefore, PiecesOk, CountsOk, SoundSolids}
-use Rattle.sound.proofs.Numbers.{lower-zero, cond-zero}
+use Rattle.sound.proofs.Numbers.{lower-zero, unless-zero}
 use Rattle.sound.proofs.Exact.{solids-exact}
 use Rattle.entry.specs.Entry.{oneMore, recordNumber, materialWords, lightWords, zeros16, withMaterial, withLight}
 use Rattle.entry.specs.After.{seen, piecesOf, materialAt, lightAt, materialsOf, lightsOf, MaterialEntered, LightEntered}
@@ -98,3 +99,82 @@ module _ (w v : List ℕ) (agree : (i : ℕ) → Solid i → getD v i 0 ≡ getD
           objects = rw o (ok-keep false 113 (countObjects w) objects-heads objects-in more (s .objects));
           room = rw (p, o, before-same true w v (seen w) (seen v) 65 (countPlanes w) planes-heads (countPlanes w) (omega arith), before-same false w v (seen w) (seen v) 113 (countObjects w) objects-heads (countObjects w) (omega arith)) (s .room);
         }
+
+-- ---- records of floats that are the same
+same-float : (v w : List ℕ) (m n i j : ℕ) → i < m → j < n → getD v i 0 ≡ getD w j 0 → floatOf (floatsOf v m) i ≡ floatOf (floatsOf w n) j
+same-float v w m n i j h k e = float-of v m i h ∙ ap (ofBits binary32) e ∙ sym (float-of w n j k)
+
+module _ (f g : List Float) (i j : ℕ) where
+  first : floatOf f (i + 0) ≡ floatOf g (j + 0) → floatOf f i ≡ floatOf g j
+  first e = ap (floatOf f) (sym (add-zero i)) ∙ e ∙ ap (floatOf g) (add-zero j)
+
+  material-same : ((k : ℕ) → k < 5 → floatOf f (i + k) ≡ floatOf g (j + k)) → materialOf f i ≡ materialOf g j
+  unfolding materialOf
+  material-same h = rw (first (h 0 (omega arith)), h 1 (omega arith), h 2 (omega arith), h 3 (omega arith), h 4 (omega arith))
+
+  light-same : ((k : ℕ) → k < 15 → floatOf f (i + k) ≡ floatOf g (j + k)) → lightOf f i ≡ lightOf g j
+  unfolding lightOf
+  light-same h =
+      let a : (x k : ℕ) → i + x + k ≡ i + (x + k) = λ x k. omega arith in
+      let b : (x k : ℕ) → j + x + k ≡ j + (x + k) = λ x k. omega arith in
+      rw (a 3 1, a 3 2, a 6 1, a 6 2, a 9 1, a 9 2, a 12 1, a 12 2, b 3 1, b 3 2, b 6 1, b 6 2, b 9 1, b 9 2, b 12 1, b 12 2)
+      (rw (first (h 0 (omega arith)), h 1 (omega arith), h 2 (omega arith), h 3 (omega arith), h 4 (omega arith), h 5 (omega arith), h 6 (omega arith), h 7 (omega arith), h 8 (omega arith), h 9 (omega arith), h 10 (omega arith), h 11 (omega arith), h 12 (omega arith), h 13 (omega arith), h 14 (omega arith)))
+
+room : (number : ℕ) (w : List ℕ) (count limit : ℕ) → recordNumber number w count limit ≡ 0 → count < limit
+unfolding recordNumber
+room number w count limit e =
+    ltb-true count limit (and-eq-true-iff (countsOk w) (ltb count limit) .0 (unless-zero 1 (countsOk w && ltb count limit) .0 (lower-zero number (unless 2 (countsOk w && ltb count limit)) .0 e .1)) .1)
+
+one-more : (n : ℕ) → n < 64 → oneMore n ≡ suc n
+unfolding oneMore
+one-more n h = let l : n < 256 = omega arith in rw (lt-ltb n 256 l) (add-one n)
+
+-- ---- a material
+module _ (w aw : List ℕ) (len : length w ≡ 22288) (c : ℕ) (is : c ≡ countMaterials w) (h : c < 64) where
+  abbrev put : List ℕ
+  put = sets w (16 * (1 + c)) (materialWords aw)
+
+  abbrev left : List ℕ
+  left = set put 0 (oneMore c)
+
+  elsewhere : (k : ℕ) → (k ≡ 0 → ⊥) → (k < 16 * (1 + c)) ⊎ (16 * (1 + c) + 16 ≤ k) → getD left k 0 ≡ getD w k 0
+  elsewhere k z s = getD-set-other put 0 k (oneMore c) 0 z ∙ getD-sets-out w (16 * (1 + c)) (materialWords aw) k s
+
+  row-is : (k : ℕ) → k < 16 → getD left (16 * (1 + c) + k) 0 ≡ getD (materialWords aw) k 0
+  row-is k s = getD-set-other put 0 (16 * (1 + c) + k) (oneMore c) 0 (λ e. omega arith) ∙ getD-sets-in w (16 * (1 + c)) (materialWords aw) k s (omega arith)
+
+  count-is : getD left 0 0 ≡ suc c
+  count-is = getD-set-same put 0 (oneMore c) 0 (rw (length-sets w (16 * (1 + c)) (materialWords aw)) (omega arith)) ∙ one-more c h
+
+  old : (m : ℕ) → m < c → materialAt left (0 + m) ≡ materialAt w (0 + m)
+  unfolding materialAt
+  old m s =
+      material-same (seen left) (seen w) (16 * (1 + (0 + m))) (16 * (1 + (0 + m)))
+      (λ k q. same-float left w 22288 22288 _ _ (omega arith) (omega arith) (elsewhere (16 * (1 + (0 + m)) + k) (λ e. omega arith) (inl (omega arith))))
+
+  new : materialAt left (0 + c) ≡ materialOf (floatsOf aw 16) 0
+  unfolding materialAt
+  new =
+      let z : 0 + c ≡ c = omega arith in
+      rw z
+      (material-same (seen left) (floatsOf aw 16) (16 * (1 + c)) 0
+      (λ k q. same-float left aw 22288 16 (16 * (1 + c) + k) (0 + k) (omega arith) (omega arith) (row-is k (omega arith) ∙ given k q)))
+    where
+      given : (k : ℕ) → k < 5 → getD (materialWords aw) k 0 ≡ getD aw (0 + k) 0
+      given zero q = refl
+      given (suc zero) q = refl
+      given (suc (suc zero)) q = refl
+      given (suc (suc (suc zero))) q = refl
+      given (suc (suc (suc (suc zero)))) q = refl
+      given (suc (suc (suc (suc (suc k))))) q = absurd (omega arith)
+
+  materials-more : listFrom (materialAt left) 0 (suc c) ≡ listFrom (materialAt w) 0 c ++ (materialOf (floatsOf aw 16) 0 ∷ [])
+  materials-more = from-snoc (materialAt left) 0 c ∙ ap (λ (l : List Material). l ++ (materialAt left (0 + c) ∷ [])) (from-same (materialAt left) (materialAt w) 0 0 c old) ∙ ap (λ (m : Material). listFrom (materialAt w) 0 c ++ (m ∷ [])) new
+
+  lights-kept : (n : ℕ) → n ≤ 16 → listFrom (lightAt left) 0 n ≡ listFrom (lightAt w) 0 n
+  unfolding lightAt
+  lights-kept n s =
+      from-same (lightAt left) (lightAt w) 0 0 n
+      (λ l q.
+      light-same (seen left) (seen w) (16 * (81 + 2 * (0 + l))) (16 * (81 + 2 * (0 + l)))
+      (λ k p. same-float left w 22288 22288 _ _ (omega arith) (omega arith) (elsewhere (16 * (81 + 2 * (0 + l)) + k) (λ e. omega arith) (inr (omega arith)))))

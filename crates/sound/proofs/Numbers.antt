@@ -35,7 +35,7 @@ pub cond-zero : (b : Bool) (a n : ℕ) → (cond b a (suc n) ≡ 0) ↔ ((b ≡ 
 cond-zero true a n = (λ e. (refl, e), λ p. p .1)
 cond-zero false a n = (λ e. absurd (omega arith), λ p. absurd (false≢true (p .0)))
 
-unless-zero : (n : ℕ) (b : Bool) → (unless (suc n) b ≡ 0) ↔ (b ≡ true)
+pub unless-zero : (n : ℕ) (b : Bool) → (unless (suc n) b ≡ 0) ↔ (b ≡ true)
 unfolding unless
 unless-zero n true = (λ _. refl, λ _. refl)
 unless-zero n false = (λ e. absurd (omega arith), λ e. absurd (false≢true e))
