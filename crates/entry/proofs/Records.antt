@@ -178,3 +178,128 @@ module _ (w aw : List ℕ) (len : length w ≡ 22288) (c : ℕ) (is : c ≡ coun
       (λ l q.
       light-same (seen left) (seen w) (16 * (81 + 2 * (0 + l))) (16 * (81 + 2 * (0 + l)))
       (λ k p. same-float left w 22288 22288 _ _ (omega arith) (omega arith) (elsewhere (16 * (81 + 2 * (0 + l)) + k) (λ e. omega arith) (inr (omega arith)))))
+
+pub material-entered : (number : ℕ) (w aw : List ℕ) → length w ≡ 22288 → solidsOf w (seen w) .number ≡ 0 → recordNumber number w (countMaterials w) 64 ≡ 0 → MaterialEntered w (materialOf (floatsOf aw 16) 0) (withMaterial w aw)
+unfolding withMaterial
+material-entered number w aw len z e =
+    let c : ℕ = countMaterials w in
+    let h = room number w c 64 e in
+    let s = solids-exact w (seen w) .0 z in
+    let v : List ℕ = left w aw len c refl h in
+    let stay : (k : ℕ) → (k ≡ 0 → ⊥) → (k < 16 * (1 + c)) ⊎ (16 * (1 + c) + 16 ≤ k) → getD v k 0 ≡ getD w k 0 = elsewhere w aw len c refl h in
+    let count : countMaterials v ≡ suc c = count-is w aw len c refl h in
+    let planes : countPlanes v ≡ countPlanes w = stay 1 (λ x. omega arith) (inl (omega arith)) in
+    let lights : countLights v ≡ countLights w = stay 2 (λ x. omega arith) (inl (omega arith)) in
+    let objects : countObjects v ≡ countObjects w = stay 3 (λ x. omega arith) (inl (omega arith)) in
+    let agree : (i : ℕ) → Solid i → getD v i 0 ≡ getD w i 0 = λ i x. stay i (λ y. solid-some i x (omega arith)) (inr (solid-past i c h x)) in
+    let counts : CountsOk v = record { materials = rw count h; planes = rw planes (s .counts .planes); lights = rw lights (s .counts .lights); objects = rw objects (s .counts .objects) } in
+    record {
+      own = rw count (materials-more w aw len c refl h);
+      lights = rw lights (lights-kept w aw len c refl h (countLights w) (s .counts .lights));
+      pieces = pieces-stay w v agree s planes objects;
+      sound = solids-exact v (seen v) .1 (sound-stays w v agree s counts (rw count (omega arith)) planes objects);
+    }
+  where
+    solid-some : (i : ℕ) → Solid i → i < 1040 → ⊥
+    solid-some i (inl a) l = omega arith
+    solid-some i (inr a) l = omega arith
+
+    solid-past : (i c : ℕ) → c < 64 → Solid i → 16 * (1 + c) + 16 ≤ i
+    solid-past i c h (inl a) = omega arith
+    solid-past i c h (inr a) = omega arith
+
+-- ---- a light
+module _ (w aw : List ℕ) (len : length w ≡ 22288) (c : ℕ) (is : c ≡ countLights w) (h : c < 16) where
+  abbrev put-one : List ℕ
+  put-one = sets w (16 * (81 + 2 * c)) (lightWords aw)
+
+  abbrev put-two : List ℕ
+  put-two = sets put-one (16 * (82 + 2 * c)) zeros16
+
+  abbrev lit : List ℕ
+  lit = set put-two 2 (oneMore c)
+
+  lit-elsewhere : (k : ℕ) → (k ≡ 2 → ⊥) → (k < 16 * (81 + 2 * c)) ⊎ (16 * (81 + 2 * c) + 32 ≤ k) → getD lit k 0 ≡ getD w k 0
+  lit-elsewhere k z (inl s) = getD-set-other put-two 2 k (oneMore c) 0 z ∙ getD-sets-out put-one (16 * (82 + 2 * c)) zeros16 k (inl (omega arith)) ∙ getD-sets-out w (16 * (81 + 2 * c)) (lightWords aw) k (inl s)
+  lit-elsewhere k z (inr s) = getD-set-other put-two 2 k (oneMore c) 0 z ∙ getD-sets-out put-one (16 * (82 + 2 * c)) zeros16 k (inr (omega arith)) ∙ getD-sets-out w (16 * (81 + 2 * c)) (lightWords aw) k (inr (omega arith))
+
+  lit-row : (k : ℕ) → k < 16 → getD lit (16 * (81 + 2 * c) + k) 0 ≡ getD (lightWords aw) k 0
+  lit-row k s =
+      getD-set-other put-two 2 (16 * (81 + 2 * c) + k) (oneMore c) 0 (λ e. omega arith)
+      ∙ getD-sets-out put-one (16 * (82 + 2 * c)) zeros16 (16 * (81 + 2 * c) + k) (inl (omega arith))
+      ∙ getD-sets-in w (16 * (81 + 2 * c)) (lightWords aw) k s (omega arith)
+
+  lit-count : getD lit 2 0 ≡ suc c
+  lit-count = getD-set-same put-two 2 (oneMore c) 0 (rw (length-sets put-one (16 * (82 + 2 * c)) zeros16, length-sets w (16 * (81 + 2 * c)) (lightWords aw)) (omega arith)) ∙ one-more c (omega arith)
+
+  old-light : (l : ℕ) → l < c → lightAt lit (0 + l) ≡ lightAt w (0 + l)
+  unfolding lightAt
+  old-light l s =
+      light-same (seen lit) (seen w) (16 * (81 + 2 * (0 + l))) (16 * (81 + 2 * (0 + l)))
+      (λ k q. same-float lit w 22288 22288 _ _ (omega arith) (omega arith) (lit-elsewhere (16 * (81 + 2 * (0 + l)) + k) (λ e. omega arith) (inl (omega arith))))
+
+  new-light : lightAt lit (0 + c) ≡ lightOf (floatsOf aw 16) 0
+  unfolding lightAt
+  new-light =
+      let z : 0 + c ≡ c = omega arith in
+      rw z
+      (light-same (seen lit) (floatsOf aw 16) (16 * (81 + 2 * c)) 0
+      (λ k q. same-float lit aw 22288 16 (16 * (81 + 2 * c) + k) (0 + k) (omega arith) (omega arith) (lit-row k (omega arith) ∙ given k q)))
+    where
+      given : (k : ℕ) → k < 15 → getD (lightWords aw) k 0 ≡ getD aw (0 + k) 0
+      given zero q = refl
+      given (suc zero) q = refl
+      given (suc (suc zero)) q = refl
+      given (suc (suc (suc zero))) q = refl
+      given (suc (suc (suc (suc zero)))) q = refl
+      given (suc (suc (suc (suc (suc zero))))) q = refl
+      given (suc (suc (suc (suc (suc (suc zero)))))) q = refl
+      given (suc (suc (suc (suc (suc (suc (suc zero))))))) q = refl
+      given (suc (suc (suc (suc (suc (suc (suc (suc zero)))))))) q = refl
+      given (suc (suc (suc (suc (suc (suc (suc (suc (suc zero))))))))) q = refl
+      given (suc (suc (suc (suc (suc (suc (suc (suc (suc (suc zero)))))))))) q = refl
+      given (suc (suc (suc (suc (suc (suc (suc (suc (suc (suc (suc zero))))))))))) q = refl
+      given (suc (suc (suc (suc (suc (suc (suc (suc (suc (suc (suc (suc zero)))))))))))) q = refl
+      given (suc (suc (suc (suc (suc (suc (suc (suc (suc (suc (suc (suc (suc zero))))))))))))) q = refl
+      given (suc (suc (suc (suc (suc (suc (suc (suc (suc (suc (suc (suc (suc (suc zero)))))))))))))) q = refl
+      given (suc (suc (suc (suc (suc (suc (suc (suc (suc (suc (suc (suc (suc (suc (suc k))))))))))))))) q = absurd (omega arith)
+
+  lights-more : listFrom (lightAt lit) 0 (suc c) ≡ listFrom (lightAt w) 0 c ++ (lightOf (floatsOf aw 16) 0 ∷ [])
+  lights-more = from-snoc (lightAt lit) 0 c ∙ ap (λ (l : List QuadLight). l ++ (lightAt lit (0 + c) ∷ [])) (from-same (lightAt lit) (lightAt w) 0 0 c old-light) ∙ ap (λ (m : QuadLight). listFrom (lightAt w) 0 c ++ (m ∷ [])) new-light
+
+  materials-kept : (n : ℕ) → n ≤ 64 → listFrom (materialAt lit) 0 n ≡ listFrom (materialAt w) 0 n
+  unfolding materialAt
+  materials-kept n s =
+      from-same (materialAt lit) (materialAt w) 0 0 n
+      (λ m q.
+      material-same (seen lit) (seen w) (16 * (1 + (0 + m))) (16 * (1 + (0 + m)))
+      (λ k p. same-float lit w 22288 22288 _ _ (omega arith) (omega arith) (lit-elsewhere (16 * (1 + (0 + m)) + k) (λ e. omega arith) (inl (omega arith)))))
+
+pub light-entered : (number : ℕ) (w aw : List ℕ) → length w ≡ 22288 → solidsOf w (seen w) .number ≡ 0 → recordNumber number w (countLights w) 16 ≡ 0 → LightEntered w (lightOf (floatsOf aw 16) 0) (withLight w aw)
+unfolding withLight
+light-entered number w aw len z e =
+    let c : ℕ = countLights w in
+    let h = room number w c 16 e in
+    let s = solids-exact w (seen w) .0 z in
+    let v : List ℕ = lit w aw len c refl h in
+    let stay : (k : ℕ) → (k ≡ 2 → ⊥) → (k < 16 * (81 + 2 * c)) ⊎ (16 * (81 + 2 * c) + 32 ≤ k) → getD v k 0 ≡ getD w k 0 = lit-elsewhere w aw len c refl h in
+    let count : countLights v ≡ suc c = lit-count w aw len c refl h in
+    let materials : countMaterials v ≡ countMaterials w = stay 0 (λ x. omega arith) (inl (omega arith)) in
+    let planes : countPlanes v ≡ countPlanes w = stay 1 (λ x. omega arith) (inl (omega arith)) in
+    let objects : countObjects v ≡ countObjects w = stay 3 (λ x. omega arith) (inl (omega arith)) in
+    let agree : (i : ℕ) → Solid i → getD v i 0 ≡ getD w i 0 = λ i x. stay i (λ y. solid-some i x (omega arith)) (solid-apart i c h x) in
+    let counts : CountsOk v = record { materials = rw materials (s .counts .materials); planes = rw planes (s .counts .planes); lights = rw count h; objects = rw objects (s .counts .objects) } in
+    record {
+      own = rw count (lights-more w aw len c refl h);
+      materials = rw materials (materials-kept w aw len c refl h (countMaterials w) (s .counts .materials));
+      pieces = pieces-stay w v agree s planes objects;
+      sound = solids-exact v (seen v) .1 (sound-stays w v agree s counts (rw materials (omega arith)) planes objects);
+    }
+  where
+    solid-some : (i : ℕ) → Solid i → i < 1040 → ⊥
+    solid-some i (inl a) l = omega arith
+    solid-some i (inr a) l = omega arith
+
+    solid-apart : (i c : ℕ) → c < 16 → Solid i → (i < 16 * (81 + 2 * c)) ⊎ (16 * (81 + 2 * c) + 32 ≤ i)
+    solid-apart i c h (inl a) = inl (omega arith)
+    solid-apart i c h (inr a) = inr (omega arith)
