@@ -6,3 +6,4 @@ pub mod Keeps
 pub mod Stands
 pub mod After
 pub mod Records
+pub mod Made

@@ -3,7 +3,7 @@ use Prim.Native.Nat.{ℕ, _+_, _*_, _≤_, _<_}
 use mathlib.Core.Path.{_≡_}
 use mathlib.Core.Bool.{Bool, true, false, not, cond}
 use mathlib.Core.List.{List, [], _∷_, _++_}
-use lib.ListN.{getD}
+use lib.ListN.{length, getD, replicate}
 use lib.Ieee.{Float}
 use Rattle.sdf.specs.declared.Shape.{Shape}
 use Rattle.words.specs.Lists.{listFrom}
@@ -14,7 +14,7 @@ use Rattle.sound.specs.Sound.{solidsOf}
 use Rattle.args.specs.declared.Material.{Material}
 use Rattle.args.specs.declared.QuadLight.{QuadLight}
 use Rattle.args.specs.Records.{materialOf, lightOf}
-use Rattle.entry.specs.Entry.{countOf, rowOf}
+use Rattle.entry.specs.Entry.{countOf, rowOf, pieceNumber, newPlace, withPiece, recordNumber, withMaterial, withLight}
 
 -- a plan's words seen as floats
 abbrev pub seen : List ℕ → List Float
@@ -79,3 +79,11 @@ pub record Entered (planes : Bool) (w : List ℕ) (p : Piece) (w′ : List ℕ) 
   pub counts : (countMaterials w′ ≡ countMaterials w) × (countLights w′ ≡ countLights w)
   -- and the plan is in order again
   pub sound : solidsOf w′ (seen w′) .number ≡ 0
+
+-- a plan made by entries: the empty one, and what each accepted entry leaves of such a plan
+pub data Made : List ℕ → Type 0 where
+  empty : Made (replicate 22288 0)
+  piece : (planes : Bool) (aw : List ℕ) (bytes : ℕ) {w : List ℕ} → Made w → length aw ≡ 144 → pieceNumber 0 planes w (solidsOf w (seen w)) aw (floatsOf aw 144) bytes ≡ 0
+      → Made (withPiece planes w aw (newPlace planes (solidsOf w (seen w)) (getD aw 2 0)))
+  material : (aw : List ℕ) (number : ℕ) {w : List ℕ} → Made w → recordNumber number w (countMaterials w) 64 ≡ 0 → Made (withMaterial w aw)
+  light : (aw : List ℕ) (number : ℕ) {w : List ℕ} → Made w → recordNumber number w (countLights w) 16 ≡ 0 → Made (withLight w aw)
