@@ -13,25 +13,9 @@ use Rattle.sdf.specs.declared.Shape.{Shape}
 use Rattle.rules.specs.Prims.{shapeOf}
 use Rattle.words.specs.Lists.{listFrom}
 use Rattle.words.specs.Words.{floatAt, floatsOf}
+use Rattle.words.proofs.Runs.{from-same, getD-from}
 use Rattle.scene.specs.Model.{floatOf, primOf, cutterKind, cutterAt, headAt}
 use Rattle.entry.specs.Entry.{usedWords, kept}
-
--- ---- lists made of a function of the index
-module _ {A : Type 0} where
-  pub from-same : (f g : ℕ → A) (a b n : ℕ) → ((k : ℕ) → k < n → f (a + k) ≡ g (b + k)) → listFrom f a n ≡ listFrom g b n
-  unfolding listFrom
-  from-same f g a b zero h = refl
-  from-same f g a b (suc n) h =
-      let here : f a ≡ g b = ap f (omega arith) ∙ h 0 (omega arith) ∙ ap g (omega arith) in
-      let next : (k : ℕ) → k < n → f (suc a + k) ≡ g (suc b + k)
-      = λ k p. ap f (omega arith) ∙ h (suc k) (omega arith) ∙ ap g (omega arith) in
-      rw (here, from-same f g (suc a) (suc b) n next)
-
-  pub getD-from : (f : ℕ → A) (a n i : ℕ) (d : A) → i < n → getD (listFrom f a n) i d ≡ f (a + i)
-  unfolding listFrom
-  getD-from f a zero i d h = absurd (omega arith)
-  getD-from f a (suc n) zero d h = rw add-zero
-  getD-from f a (suc n) (suc i) d h = getD-from f (suc a) n i d (omega arith) ∙ ap f (omega arith)
 
 -- ---- a table's floats
 pub float-of : (w : List ℕ) (n i : ℕ) → i < n → floatOf (floatsOf w n) i ≡ ofBits binary32 (getD w i 0)

@@ -13,7 +13,8 @@ use Rattle.scene.specs.Model.{floatOf, primOf, cutterKind, cutterAt, headAt, cu
 use Rattle.entry.specs.Entry.{kept, pieceWords, cutterWords}
 use Rattle.entry.specs.After.{seen, argShape, givenPiece}
 use Rattle.entry.proofs.Writes.{written, at-row, at-cutter, elsewhere}
-use Rattle.entry.proofs.Decode.{from-same, float-of, each8, prim-kept, kind-same, cutter-same, head-same}
+use Rattle.words.proofs.Runs.{from-same}
+use Rattle.entry.proofs.Decode.{float-of, each8, prim-kept, kind-same, cutter-same, head-same}
 
 -- a piece from its head and its cutters
 piece-of : (w : List ℕ) (f : List Float) (r : ℕ) (h : Head) (cs : List Shape) → headAt w f r ≡ h → cuttersFrom w f (h .place) (h .cutters) ≡ cs → pieceAt w f r ≡ record { head = h; cuts = cs }

@@ -29,7 +29,8 @@ use Rattle.sound.proofs.Numbers.{lower-zero, unless-zero}
 use Rattle.sound.proofs.Exact.{solids-exact}
 use Rattle.entry.specs.Entry.{oneMore, recordNumber, materialWords, lightWords, zeros16, withMaterial, withLight}
 use Rattle.entry.specs.After.{seen, piecesOf, materialAt, lightAt, materialsOf, lightsOf, MaterialEntered, LightEntered}
-use Rattle.entry.proofs.Decode.{from-same, float-of, kind-same, cutter-same, head-same}
+use Rattle.words.proofs.Runs.{from-same}
+use Rattle.entry.proofs.Decode.{float-of, kind-same, cutter-same, head-same}
 use Rattle.entry.proofs.Writes.{getD-sets-out, getD-sets-in}
 use Rattle.entry.proofs.Stands.{before-same, planes-reach, objects-reach}
 

@@ -16,7 +16,7 @@ use Rattle.scene.specs.Model.{Piece, primOf, cutterKind, cutterAt, headAt, piec
 use Rattle.sound.specs.Exact.{PrimOk, PieceOk, cuttersBefore, PlaceIs, PiecesOk, SoundSolids}
 use Rattle.sound.proofs.Numbers.{each-more}
 use Rattle.entry.specs.After.{seen, argShape, givenPiece}
-use Rattle.entry.proofs.Decode.{from-same}
+use Rattle.words.proofs.Runs.{from-same}
 
 -- ---- the places that the first pieces use
 module _ (w : List ℕ) (f : List Float) (r : ℕ) where

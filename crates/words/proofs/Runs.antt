@@ -38,6 +38,29 @@ module _ {A : Type 0} (f : ℕ → A) where
       let q : i ≡ n = omega arith in
       sym (take-all i l (omega arith)) ∙ p ∙ ap (listFrom f 0) q
 
+-- two lists of functions of the index that agree, and what such a list holds
+module _ {A : Type 0} where
+  pub from-same : (f g : ℕ → A) (a b n : ℕ) → ((k : ℕ) → k < n → f (a + k) ≡ g (b + k)) → listFrom f a n ≡ listFrom g b n
+  unfolding listFrom
+  from-same f g a b zero h = refl
+  from-same f g a b (suc n) h =
+      let here : f a ≡ g b = ap f (omega arith) ∙ h 0 (omega arith) ∙ ap g (omega arith) in
+      let next : (k : ℕ) → k < n → f (suc a + k) ≡ g (suc b + k)
+      = λ k p. ap f (omega arith) ∙ h (suc k) (omega arith) ∙ ap g (omega arith) in
+      rw (here, from-same f g (suc a) (suc b) n next)
+
+  pub getD-from : (f : ℕ → A) (a n i : ℕ) (d : A) → i < n → getD (listFrom f a n) i d ≡ f (a + i)
+  unfolding listFrom
+  getD-from f a zero i d h = absurd (omega arith)
+  getD-from f a (suc n) zero d h = rw add-zero
+  getD-from f a (suc n) (suc i) d h = getD-from f (suc a) n i d (omega arith) ∙ ap f (omega arith)
+
+  pub getD-past : (f : ℕ → A) (a n i : ℕ) (d : A) → n ≤ i → getD (listFrom f a n) i d ≡ d
+  unfolding listFrom
+  getD-past f a zero i d h = refl
+  getD-past f a (suc n) zero d h = absurd (omega arith)
+  getD-past f a (suc n) (suc i) d h = getD-past f (suc a) n i d (omega arith)
+
 -- a loop that writes words from 0 on: a turn, and the end
 pub puts-step : (b ws : List ℕ) (i : ℕ) → i < length ws → putWords b i (drop i ws) ≡ putWords (putWord b i (getD ws i 0)) (i + 1) (drop (i + 1) ws)
 unfolding putWords

@@ -1,0 +1,19 @@
+-- `boxes::no_box` meets its contract: 0 by 0 is NaN. Assumes nothing.
+use Rattle.vec.specs.Vec.{vsplat}
+use Rattle.root.proofs.Nans.{zero-by-zero}
+use borrow.Author.Needs.{needs}
+use Rattle.boxes.proofs.no_box.Statement.{statement}
+use Rattle.boxes.proofs.no_box.Tie as tie
+
+splat-requires : tie.Need-splat-requires
+splat-requires c κs = search needs
+
+splat-requires-2 : tie.Need-splat-requires-2
+splat-requires-2 c κs = search needs
+
+returns : tie.Need-returns
+unfolding vsplat
+returns c = rw (c .splat2 .ensures, c .before .splat .ensures, zero-by-zero)
+
+pub no-box-spec : {M : Type 1} → statement M
+no-box-spec = tie.close (tie.spec splat-requires splat-requires-2 returns)
