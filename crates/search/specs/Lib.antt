@@ -1,0 +1,4 @@
+pub mod Search
+pub mod Machine
+pub mod Walk
+pub mod Demand

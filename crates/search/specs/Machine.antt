@@ -1,0 +1,89 @@
+-- The search as the code holds it: the node in hand with the square of its box distance, and the others in two tables of 64 places, the last on top.
+-- Definitions only; that it comes to `runOf` is shown in proofs/Machine.antt.
+use Prim.Native.Nat.{ℕ, _+_, _-_, _%_, _^_}
+use mathlib.Core.Bool.{Bool, cond}
+use mathlib.Core.List.{List}
+use lib.ListN.{getD, set}
+use lib.Dec.{leb, ltb, eqb}
+use lib.Ieee.{Float, nan, lt, le}
+use Rattle.root.specs.Root.{rootOf}
+use Rattle.num.specs.F32.{f0}
+use Rattle.vec.specs.declared.Vec3.{Vec3}
+use Rattle.vec.specs.Vec.{vsplat, vsub, vmax, vdot}
+use Rattle.sdf.specs.declared.Aabb.{Aabb}
+use Rattle.scene.specs.declared.DistHit.{DistHit}
+use Rattle.tree.specs.declared.Node.{Node}
+use Rattle.tree.specs.Nodes.{nodeAt}
+use Rattle.search.specs.declared.State.{State}
+use Rattle.search.specs.Search.{leafHit, placesOf}
+
+-- the square of a box distance
+abbrev pub gapOf : Vec3 → Aabb → Vec3
+gapOf p b = vmax (vmax (vsub (b .lo) p) (vsub p (b .hi))) (vsplat f0)
+
+unfoldable pub boxSquare : Vec3 → Aabb → Float
+boxSquare p b = vdot (gapOf p b) (gapOf p b)
+
+unfoldable pub farOff : Float → Float → Bool
+farOff s d = le d (rootOf s)
+
+unfoldable pub leftFirst : Float → Float → Bool
+leftFirst l r = lt (rootOf l) (rootOf r)
+
+-- the state with the node a in hand
+abbrev pub holding : State → ℕ → Float → ℕ → State
+holding s a key sp =
+    record { at = a; key = key; sp = sp; hit = s .hit; popped = s .popped; evaluated = s .evaluated; done = s .done }
+
+abbrev pub ended : State → ℕ → State
+ended s how =
+    record { at = s .at; key = s .key; sp = s .sp; hit = s .hit; popped = s .popped; evaluated = s .evaluated; done = how }
+
+abbrev pub popping : State → State
+popping s =
+    record { at = s .at; key = s .key; sp = s .sp; hit = s .hit; popped = (s .popped + 1) % 2 ^ 32; evaluated = s .evaluated; done = s .done }
+
+abbrev pub scanned : State → DistHit → ℕ → State
+scanned s h c =
+    record { at = s .at; key = s .key; sp = s .sp; hit = h; popped = s .popped; evaluated = (s .evaluated + c) % 2 ^ 32; done = s .done }
+
+-- the next waiting node in hand, or the end
+unfoldable pub nextOf : List ℕ → List Float → State → State
+nextOf stack keys s = cond (eqb (s .sp) 0) (ended s 1) (holding s (getD stack (s .sp - 1) 0) (getD keys (s .sp - 1) nan) (s .sp - 1))
+
+pub record Tables : Type 0 where
+  pub stack : List ℕ
+  pub keys : List Float
+  pub state : State
+
+abbrev pub tables : List ℕ → List Float → State → Tables
+tables stack keys s = record { stack = stack; keys = keys; state = s }
+
+-- a and its key waiting, b in hand
+abbrev pub twoOf : List ℕ → List Float → State → ℕ → Float → ℕ → Float → Tables
+twoOf stack keys s a ka b kb = tables (set stack (s .sp) a) (set keys (s .sp) ka) (holding s b kb (s .sp + 1))
+
+module _ (nw : List ℕ) (nf : List Float) (o : List ℕ) (w : List ℕ) (f : List Float) (p : Vec3) where
+  unfoldable pub squareAt : ℕ → Float
+  squareAt a = boxSquare p (nodeAt nw nf a .hull)
+
+  -- both children of an interior node with places l and r
+  unfoldable pub childrenOf : List ℕ → List Float → State → ℕ → ℕ → Tables
+  childrenOf stack keys s l r =
+      cond (ltb 62 (s .sp)) (tables stack keys (ended s 2))
+      (cond (leftFirst (squareAt l) (squareAt r))
+      (twoOf stack keys s r (squareAt r) l (squareAt l))
+      (twoOf stack keys s l (squareAt l) r (squareAt r)))
+
+  unfoldable pub openedOf : List ℕ → List Float → State → Node → Tables
+  openedOf stack keys s v =
+      cond (eqb (v .count) 0)
+      (childrenOf stack keys s (s .at + 1) (v .right))
+      (tables stack keys (nextOf stack keys (scanned s (leafHit w f o p (v .start) (placesOf v) (s .hit)) (placesOf v))))
+
+  -- one pop
+  unfoldable pub steppedOf : List ℕ → List Float → State → Tables
+  steppedOf stack keys s =
+      cond (farOff (s .key) (s .hit .d))
+      (tables stack keys (nextOf stack keys (popping s)))
+      (openedOf stack keys (popping s) (nodeAt nw nf (s .at)))
