@@ -3,7 +3,7 @@ ghost use mathlib.Core.Path.{_≡_};
 ghost use Prim.Native.Nat.{_-_};
 ghost use lib.ListN.{length, getD};
 ghost use Rattle.boxes.specs.Boxes.{boxesOf};
-ghost use Rattle.scene.specs.Model.{wordOf};
+ghost use Rattle.scene.specs.Model.{wordOf, countObjects};
 ghost use Rattle.tree.specs.Nodes.{nodeAt};
 ghost use Rattle.tree.specs.Check.{heldAt, holdsAll, leafWords, leafOk, hullOk, kindOf, checkOf, orderOk, wholeOf, judgeOf, isGood, offeredNumber, standingNumber};
 use sdf::Aabb;
@@ -122,10 +122,16 @@ fn leaf_words(v: Node, n: usize, start: usize) -> bool
     )
 }
 
+fn object_count(ws: &[u32; 22288]) -> u32
+    ensures { λ r. ⌜ r ≡ countObjects (now (ws .entry)) ⌝ }
+{
+    ws[3]
+}
+
 fn objects(ws: &[u32; 22288], fs: &[f32; 22288]) -> usize
     ensures { λ r. ⌜ r ≡ length (boxesOf (now (ws .entry)) (now (fs .entry))) ⌝ }
 {
-    ws[3] as usize
+    object_count(ws) as usize
 }
 
 fn leaf_ok(ow: &[u32; 256], ws: &[u32; 22288], fs: &[f32; 22288], v: Node, start: usize) -> bool

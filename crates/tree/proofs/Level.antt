@@ -1,0 +1,79 @@
+-- One level of `checkOf`, by what the node is, and what a node that is good tells of its places. Each by the tests taken. Assumes nothing.
+use Prim.Native.Nat.{ℕ, zero, suc, _+_, _-_, _<_}
+use mathlib.Core.Path.{_≡_, refl, sym, _∙_}
+use mathlib.Core.Bool.{Bool, true, false, cond, _&&_, and-eq-true-iff, false≢true}
+use mathlib.Core.List.{List}
+use native.Mathlib.Numerals.{sub-one}
+use native.Mathlib.Omega.{arith}
+use lib.ListN.{length}
+use lib.Dec.{eqb, ltb, leb}
+use lib.Ieee.{Float}
+use borrow.Author.Tests.{eq-eqb, ne-eqb, eqb-true, ltb-true}
+use Rattle.sdf.specs.declared.Aabb.{Aabb}
+use Rattle.boxes.specs.Boxes.{finiteBox, inside}
+use Rattle.tree.specs.declared.Node.{Node}
+use Rattle.tree.specs.declared.Kind.{Kind}
+use Rattle.tree.specs.declared.Kind.the-variants.{Wrong, Leaf, Inner}
+use Rattle.tree.specs.declared.Sub.{Sub}
+use Rattle.tree.specs.declared.Sub.the-variants.{Bad, Good}
+use Rattle.tree.specs.Nodes.{nodeAt}
+use Rattle.tree.specs.Check.{holdsAll, leafWords, leafOk, hullOk, kindOf, then, onKind, checkOf}
+
+-- both of a test's parts
+pub cond-true : (a b : Bool) → cond a b false ≡ true → (a ≡ true) × (b ≡ true)
+cond-true true b e = (refl, e)
+cond-true false b e = absurd (false≢true e)
+
+pub hull-at : (b outer : Aabb) (at : ℕ) → hullOk b outer at ≡ true → at < 511
+unfolding hullOk
+hull-at b outer at e = ltb-true at 511 (and-eq-true-iff (ltb at 511) (finiteBox b && inside b outer) .0 e .0)
+
+pub words-start : (v : Node) (n start : ℕ) → leafWords v n start ≡ true → v .start ≡ start
+unfolding leafWords
+words-start v n start e =
+    let p = and-eq-true-iff (eqb (v .right) 0 && eqb (v .start) start) (leb start n && leb (v .count) (n - start)) .0 e in
+    eqb-true (v .start) start (and-eq-true-iff (eqb (v .right) 0) (eqb (v .start) start) .0 (p .0) .1)
+
+module _ (o : List ℕ) (bs : List Aabb) (v : Node) (start : ℕ) where
+  module _ (n : ℕ) (e : n ≡ length bs) where
+    pub leaf-good : leafWords v n start ≡ true → leafOk o bs v start ≡ holdsAll o bs (v .hull) (v .start) (v .count)
+    unfolding leafOk
+    leaf-good g = rw (sym e, g, words-start v n start g)
+
+    pub leaf-bad : leafWords v n start ≡ false → leafOk o bs v start ≡ false
+    unfolding leafOk
+    leaf-bad g = rw (sym e, g)
+
+  pub leaf-start : leafOk o bs v start ≡ true → v .start ≡ start
+  unfolding leafOk
+  leaf-start e = words-start v (length bs) start (cond-true (leafWords v (length bs) start) (holdsAll o bs (v .hull) start (v .count)) e .0)
+
+module _ (w : List ℕ) (f : List Float) (o : List ℕ) (bs : List Aabb) (outer : Aabb) (at start : ℕ) where
+  pub check-none : (level : ℕ) → level ≡ 0 → Bad ≡ checkOf level w f o bs outer at start
+  unfolding checkOf
+  check-none level e = rw e
+
+  module _ (v : Node) (ev : v ≡ nodeAt w f at) (k : Kind) (ek : k ≡ kindOf o bs v outer at start) where
+    -- the parts are in v's box
+    check-step : (level : ℕ) → 0 < level → checkOf level w f o bs outer at start ≡ onKind k (λ left right. then (checkOf (level - 1) w f o bs (v .hull) left start) right (λ next end. checkOf (level - 1) w f o bs (v .hull) next end))
+    unfolding checkOf
+    check-step zero h = absurd (omega arith)
+    check-step (suc level) h = rw (ek, ev, sub-one)
+
+    module _ (level : ℕ) (h : 0 < level) where
+      pub check-wrong : k ≡ Wrong → Bad ≡ checkOf level w f o bs outer at start
+      check-wrong e = rw (check-step level h, e)
+
+      pub check-leaf : (a b : ℕ) → k ≡ Leaf a b → Good a b ≡ checkOf level w f o bs outer at start
+      check-leaf a b e = rw (check-step level h, e)
+
+      module _ (l r : ℕ) (e : k ≡ Inner l r) (part : Sub) (ep : part ≡ checkOf (level - 1) w f o bs (v .hull) l start) where
+        pub check-left-bad : part ≡ Bad → Bad ≡ checkOf level w f o bs outer at start
+        check-left-bad g = rw (check-step level h, e, sym ep, g)
+
+        module _ (a b : ℕ) (g : part ≡ Good a b) where
+          pub check-right : (x : Sub) → r ≡ a → x ≡ checkOf (level - 1) w f o bs (v .hull) a b → x ≡ checkOf level w f o bs outer at start
+          check-right x q k = rw (check-step level h, e, sym ep, g, eq-eqb r a q) k
+
+          pub check-other : (r ≡ a → ⊥) → Bad ≡ checkOf level w f o bs outer at start
+          check-other q = rw (check-step level h, e, sym ep, g, ne-eqb r a q)

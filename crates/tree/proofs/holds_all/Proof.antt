@@ -1,0 +1,63 @@
+-- `tree::holds_all` meets its contract: what was passed lies within b. Assumes nothing.
+use borrow.Author.Needs.{needs}
+use Prim.Native.Nat.{_≤_, _-_}
+use mathlib.Core.Path.{_≡_}
+use native.Mathlib.Omega.{arith}
+use Rattle.boxes.specs.Boxes.{boxesOf}
+use Rattle.tree.specs.Check.{holdsAll}
+use Rattle.tree.proofs.Lists.{holds-none, holds-more}
+use Rattle.tree.proofs.holds_all.Statement.{statement}
+use Rattle.tree.proofs.holds_all.Tie as tie
+use Rattle.tree.proofs.holds_all.Reads as reads
+use Rattle.tree.proofs.holds_all.Lts as lts
+use Rattle.rules.proofs.both.Reads as both-reads
+use Rattle.tree.proofs.held.Reads as held-reads
+
+abbrev Inv-loop : tie.InvT-loop
+Inv-loop ow ws fs b start count so₀ j₀ so j = (j ≤ count) × (so ≡ holdsAll ow (boxesOf ws fs) b start j)
+
+abbrev μ-loop : tie.MeasureT-loop
+μ-loop ow ws fs b start count so₀ j₀ so j = count - j
+
+loop-holds : tie.Need-loop-holds Inv-loop μ-loop
+loop-holds c = let a = c .args in (search needs, holds-none (a .ow .now) (boxesOf (a .ws .now) (a .fs .now)) (a .b) (a .start))
+
+cast-held : tie.Need-cast-held Inv-loop μ-loop
+cast-held c = search needs
+
+add-held : tie.Need-add-held Inv-loop μ-loop
+add-held c = search needs
+
+held-requires : tie.Need-held-requires Inv-loop μ-loop
+held-requires c κs = search needs
+
+both-requires : tie.Need-both-requires Inv-loop μ-loop
+both-requires c κs = search needs
+
+add-j : tie.Need-add-j Inv-loop μ-loop
+add-j c = search needs
+
+loop-less : tie.Need-loop-less Inv-loop μ-loop
+loop-less c = search needs
+
+loop-again : tie.Need-loop-again Inv-loop μ-loop
+loop-again c = (omega arith, rw holds-more (cc))
+
+returns : tie.Need-returns Inv-loop μ-loop
+returns c = let e : c .before .loop .j ≡ c .before .before .args .count = omega arith in cc
+
+pub holds-all-spec : {M : Type 1} → statement M
+holds-all-spec =
+    tie.close
+    (tie.spec
+    Inv-loop
+    μ-loop
+    loop-holds
+    cast-held
+    add-held
+    held-requires
+    both-requires
+    add-j
+    loop-less
+    loop-again
+    returns)

@@ -1,0 +1,30 @@
+-- `tree::leaf_ok` meets its contract: each return is a case of `leafOk`. Assumes nothing.
+use Rattle.tree.proofs.Level.{leaf-good, leaf-bad}
+use mathlib.Core.Path.{sym, _∙_}
+use borrow.Author.Needs.{needs}
+use Rattle.tree.proofs.leaf_ok.Statement.{statement}
+use Rattle.tree.proofs.leaf_ok.Tie as tie
+use Rattle.tree.proofs.leaf_ok.Reads as reads
+use Rattle.tree.proofs.leaf_ok.Lts as lts
+use Rattle.tree.proofs.holds_all.Reads as holds-all-reads
+use Rattle.tree.proofs.leaf_words.Reads as leaf-words-reads
+use Rattle.tree.proofs.objects.Reads as objects-reads
+
+objects-requires : tie.Need-objects-requires
+objects-requires c κs = search needs
+
+leaf-words-requires : tie.Need-leaf-words-requires
+leaf-words-requires c κs = search needs
+
+holds-all-requires : tie.Need-holds-all-requires
+holds-all-requires c κs = search needs
+
+returns : tie.Need-returns
+returns c = c .holds-all .ensures ∙ sym (leaf-good _ _ _ _ _ (c .before .before .before .objects .ensures) (sym (c .before .before .leaf-words .ensures) ∙ c .before .if1 .taken))
+
+returns-2 : tie.Need-returns-2
+returns-2 c = sym (leaf-bad _ _ _ _ _ (c .before .before .objects .ensures) (sym (c .before .leaf-words .ensures) ∙ c .if1 .left))
+
+pub leaf-ok-spec : {M : Type 1} → statement M
+leaf-ok-spec =
+    tie.close (tie.spec objects-requires leaf-words-requires holds-all-requires returns returns-2)
