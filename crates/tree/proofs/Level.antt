@@ -17,7 +17,7 @@ use Rattle.tree.specs.declared.Kind.the-variants.{Wrong, Leaf, Inner}
 use Rattle.tree.specs.declared.Sub.{Sub}
 use Rattle.tree.specs.declared.Sub.the-variants.{Bad, Good}
 use Rattle.tree.specs.Nodes.{nodeAt}
-use Rattle.tree.specs.Check.{holdsAll, leafWords, leafOk, hullOk, kindOf, then, onKind, checkOf}
+use Rattle.tree.specs.Check.{holdsAll, leafWords, leafOk, hullOk, kindOf, then, onKind, checkOf, orderOk, wholeOf, judgeOf}
 
 -- both of a test's parts
 pub cond-true : (a b : Bool) → cond a b false ≡ true → (a ≡ true) × (b ≡ true)
@@ -48,6 +48,28 @@ module _ (o : List ℕ) (bs : List Aabb) (v : Node) (start : ℕ) where
   unfolding leafOk
   leaf-start e = words-start v (length bs) start (cond-true (leafWords v (length bs) start) (holdsAll o bs (v .hull) start (v .count)) e .0)
 
+module _ (o : List ℕ) (bs : List Aabb) (v : Node) (outer : Aabb) (at start : ℕ) where
+  pub kind-out : hullOk (v .hull) outer at ≡ false → Wrong ≡ kindOf o bs v outer at start
+  unfolding kindOf
+  kind-out h = rw h
+
+  module _ (h : hullOk (v .hull) outer at ≡ true) where
+    pub kind-inner : v .count ≡ 0 → v .start ≡ 0 → Inner (at + 1) (v .right) ≡ kindOf o bs v outer at start
+    unfolding kindOf
+    kind-inner c s = rw (h, eq-eqb (v .count) 0 c, eq-eqb (v .start) 0 s)
+
+    pub kind-started : v .count ≡ 0 → (v .start ≡ 0 → ⊥) → Wrong ≡ kindOf o bs v outer at start
+    unfolding kindOf
+    kind-started c s = rw (h, eq-eqb (v .count) 0 c, ne-eqb (v .start) 0 s)
+
+    pub kind-leaf : (v .count ≡ 0 → ⊥) → leafOk o bs v start ≡ true → Leaf (at + 1) (start + v .count) ≡ kindOf o bs v outer at start
+    unfolding kindOf
+    kind-leaf c e = rw (h, ne-eqb (v .count) 0 c, e)
+
+    pub kind-no-leaf : (v .count ≡ 0 → ⊥) → leafOk o bs v start ≡ false → Wrong ≡ kindOf o bs v outer at start
+    unfolding kindOf
+    kind-no-leaf c e = rw (h, ne-eqb (v .count) 0 c, e)
+
 module _ (w : List ℕ) (f : List Float) (o : List ℕ) (bs : List Aabb) (outer : Aabb) (at start : ℕ) where
   pub check-none : (level : ℕ) → level ≡ 0 → Bad ≡ checkOf level w f o bs outer at start
   unfolding checkOf
@@ -77,3 +99,18 @@ module _ (w : List ℕ) (f : List Float) (o : List ℕ) (bs : List Aabb) (outer 
 
           pub check-other : (r ≡ a → ⊥) → Bad ≡ checkOf level w f o bs outer at start
           check-other q = rw (check-step level h, e, sym ep, g, ne-eqb r a q)
+
+-- ---- the whole tree
+module _ (levels : ℕ) (w : List ℕ) (f : List Float) (o : List ℕ) (bs : List Aabb) (n : ℕ) (e : n ≡ length bs) where
+  pub judge-none : n ≡ 0 → Good 0 0 ≡ judgeOf levels w f o bs
+  unfolding judgeOf
+  judge-none z = rw (sym e, eq-eqb n 0 z)
+
+  module _ (z : n ≡ 0 → ⊥) where
+    pub judge-order : orderOk o n ≡ false → Bad ≡ judgeOf levels w f o bs
+    unfolding judgeOf
+    judge-order g = rw (sym e, ne-eqb n 0 z, g)
+
+    pub judge-whole : orderOk o n ≡ true → (top : Node) → top ≡ nodeAt w f 0 → (s : Sub) → s ≡ checkOf levels w f o bs (top .hull) 0 0 → wholeOf s n ≡ judgeOf levels w f o bs
+    unfolding judgeOf
+    judge-whole g top t s k = rw (sym e, ne-eqb n 0 z, g, sym t, k)

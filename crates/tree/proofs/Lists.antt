@@ -74,17 +74,18 @@ module _ (o : List ℕ) (n i : ℕ) (seen : List Bool) where
     next : n - i ≡ suc (n - (i + 1))
     next = omega arith
 
-    pub marks-high : n ≤ wordOf o i → marksOf o n (n - i) i seen ≡ false
-    unfolding marksOf
-    marks-high g = rw next (simp (le-ltb (wordOf o i) n g))
+    module _ (x : ℕ) (e : x ≡ wordOf o i) where
+      pub marks-high : n ≤ x → marksOf o n (n - i) i seen ≡ false
+      unfolding marksOf
+      marks-high g = rw (next, sym e) (simp (le-ltb x n g))
 
-    pub marks-twice : wordOf o i < n → getD seen (wordOf o i) false ≡ true → marksOf o n (n - i) i seen ≡ false
-    unfolding marksOf
-    marks-twice g s = rw next (simp (lt-ltb (wordOf o i) n g, s))
+      pub marks-twice : x < n → getD seen x false ≡ true → marksOf o n (n - i) i seen ≡ false
+      unfolding marksOf
+      marks-twice g s = rw (next, sym e) (simp (lt-ltb x n g, s))
 
-    pub marks-step : wordOf o i < n → getD seen (wordOf o i) false ≡ false → marksOf o n (n - i) i seen ≡ marksOf o n (n - (i + 1)) (i + 1) (set seen (wordOf o i) true)
-    unfolding marksOf
-    marks-step g s = rw next (simp (lt-ltb (wordOf o i) n g, s))
+      pub marks-step : x < n → getD seen x false ≡ false → marksOf o n (n - i) i seen ≡ marksOf o n (n - (i + 1)) (i + 1) (set seen x true)
+      unfolding marksOf
+      marks-step g s = rw (next, sym e) (simp (lt-ltb x n g, s))
 
 pub order-few : (o : List ℕ) (n : ℕ) → n ≤ 256 → orderOk o n ≡ marksOf o n (n - 0) 0 (replicate 256 false)
 unfolding orderOk

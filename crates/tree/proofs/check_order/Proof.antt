@@ -1,62 +1,54 @@
+-- `tree::check_order` meets its contract: what is left to mark decides. Assumes nothing.
+use borrow.Author.Needs.{needs}
+use Prim.Native.Nat.{_≤_, _-_}
+use mathlib.Core.Path.{_≡_, sym, _∙_}
+use native.Mathlib.Omega.{arith}
+use Rattle.tree.specs.Check.{marksOf, orderOk}
+use Rattle.tree.proofs.Lists.{marks-end, marks-high, marks-twice, marks-step, order-few, order-many}
 use Rattle.tree.proofs.check_order.Statement.{statement}
 use Rattle.tree.proofs.check_order.Tie as tie
-use Rattle.tree.proofs.check_order.Reads as reads
-use Rattle.tree.proofs.check_order.Lts as lts
-use Rattle.tree.proofs.order_at.Reads as order-at-reads
 
 abbrev Inv-loop : tie.InvT-loop
-Inv-loop ow n seen₀ i₀ seen i = ?
+Inv-loop ow n seen₀ i₀ seen i = (i ≤ n) × (n ≤ 256) × (marksOf ow n (n - i) i seen ≡ orderOk ow n)
 
 abbrev μ-loop : tie.MeasureT-loop
-μ-loop ow n seen₀ i₀ seen i = ?
+μ-loop ow n seen₀ i₀ seen i = n - i
 
--- src/lib.rt:219:9
 returns : tie.Need-returns Inv-loop μ-loop
-returns c = ?
+returns c = order-many _ _ (c .if1 .taken)
 
--- src/lib.rt:223:5
 loop-holds : tie.Need-loop-holds Inv-loop μ-loop
-loop-holds c = ?
+loop-holds c = (omega arith, omega arith, sym (order-few _ _ (c .if1 .left)))
 
--- src/lib.rt:224:17
 order-at-requires : tie.Need-order-at-requires Inv-loop μ-loop
-order-at-requires c κs = ?
+order-at-requires c κs = search needs
 
--- src/lib.rt:224:17
 cast-x : tie.Need-cast-x Inv-loop μ-loop
-cast-x c = ?
+cast-x c = search needs
 
--- src/lib.rt:226:13
 returns-2 : tie.Need-returns-2 Inv-loop μ-loop
-returns-2 c = ?
+returns-2 c = sym (marks-high _ _ _ _ (c .before .before .loop-test .taken) _ (c .before .order-at .ensures) (c .if2 .taken)) ∙ c .before .before .before .loop .inv .2
 
--- src/lib.rt:228:12
 array-read-if3 : tie.Need-array-read-if3 Inv-loop μ-loop
-array-read-if3 c = ?
+array-read-if3 c = search needs
 
--- src/lib.rt:229:13
 returns-3 : tie.Need-returns-3 Inv-loop μ-loop
-returns-3 c = ?
+returns-3 c = sym (marks-twice _ _ _ _ (c .before .before .before .loop-test .taken) _ (c .before .before .order-at .ensures) (c .before .if2 .left) (c .if3 .taken)) ∙ c .before .before .before .before .loop .inv .2
 
--- src/lib.rt:231:9
 array-write-seen : tie.Need-array-write-seen Inv-loop μ-loop
-array-write-seen c = ?
+array-write-seen c = search needs
 
--- src/lib.rt:232:9
 add-i : tie.Need-add-i Inv-loop μ-loop
-add-i c = ?
+add-i c = search needs
 
--- src/lib.rt:223:5
 loop-less : tie.Need-loop-less Inv-loop μ-loop
-loop-less c = ?
+loop-less c = search needs
 
--- src/lib.rt:223:5
 loop-again : tie.Need-loop-again Inv-loop μ-loop
-loop-again c = ?
+loop-again c = (omega arith, c .before .before .before .before .loop .inv .1, sym (marks-step _ _ _ _ (c .before .before .before .loop-test .taken) _ (c .before .before .order-at .ensures) (c .before .if2 .left) (c .if3 .left)) ∙ c .before .before .before .before .loop .inv .2)
 
--- src/lib.rt:215:1
 returns-4 : tie.Need-returns-4 Inv-loop μ-loop
-returns-4 c = ?
+returns-4 c = sym (marks-end _ _ _ _ (c .loop-test .left)) ∙ c .before .loop .inv .2
 
 pub check-order-spec : {M : Type 1} → statement M
 check-order-spec =

@@ -3,11 +3,6 @@ use Rattle.tree.specs.Check.{heldAt}
 use borrow.Author.Needs.{needs}
 use Rattle.tree.proofs.held.Statement.{statement}
 use Rattle.tree.proofs.held.Tie as tie
-use Rattle.tree.proofs.held.Reads as reads
-use Rattle.tree.proofs.held.Lts as lts
-use Rattle.boxes.proofs.inside.Reads as inside-reads
-use Rattle.boxes.proofs.object_box.Reads as object-box-reads
-use Rattle.tree.proofs.order_at.Reads as order-at-reads
 
 order-at-requires : tie.Need-order-at-requires
 order-at-requires c κs = search needs

@@ -8,10 +8,6 @@ use Rattle.tree.specs.Check.{holdsAll}
 use Rattle.tree.proofs.Lists.{holds-none, holds-more}
 use Rattle.tree.proofs.holds_all.Statement.{statement}
 use Rattle.tree.proofs.holds_all.Tie as tie
-use Rattle.tree.proofs.holds_all.Reads as reads
-use Rattle.tree.proofs.holds_all.Lts as lts
-use Rattle.rules.proofs.both.Reads as both-reads
-use Rattle.tree.proofs.held.Reads as held-reads
 
 abbrev Inv-loop : tie.InvT-loop
 Inv-loop ow ws fs b start count so₀ j₀ so j = (j ≤ count) × (so ≡ holdsAll ow (boxesOf ws fs) b start j)

@@ -3,11 +3,6 @@ use Rattle.tree.specs.Check.{hullOk}
 use borrow.Author.Needs.{needs}
 use Rattle.tree.proofs.hull_ok.Statement.{statement}
 use Rattle.tree.proofs.hull_ok.Tie as tie
-use Rattle.tree.proofs.hull_ok.Reads as reads
-use Rattle.tree.proofs.hull_ok.Lts as lts
-use Rattle.boxes.proofs.finite.Reads as finite-reads
-use Rattle.boxes.proofs.inside.Reads as inside-reads
-use Rattle.rules.proofs.both.Reads as both-reads
 
 finite-requires : tie.Need-finite-requires
 finite-requires c κs = search needs

@@ -1,45 +1,33 @@
+-- `tree::judge` meets its contract: each return is a case of `judgeOf`. Assumes nothing.
+use mathlib.Core.Path.{sym, _∙_}
+use Rattle.tree.proofs.Level.{judge-none, judge-order, judge-whole}
 use borrow.Author.Needs.{needs}
 use Rattle.tree.proofs.judge.Statement.{statement}
 use Rattle.tree.proofs.judge.Tie as tie
-use Rattle.tree.proofs.judge.Reads as reads
-use Rattle.tree.proofs.judge.Lts as lts
-use Rattle.tree.proofs.check_order.Reads as check-order-reads
-use Rattle.tree.proofs.check_sub.Reads as check-sub-reads
-use Rattle.tree.proofs.node_at.Reads as node-at-reads
-use Rattle.tree.proofs.objects.Reads as objects-reads
-use Rattle.tree.proofs.whole.Reads as whole-reads
 
--- src/lib.rt:268:9
 objects-requires : tie.Need-objects-requires
 objects-requires c κs = search needs
 
--- src/lib.rt:270:9
 returns : tie.Need-returns
-returns c = ?
+returns c = judge-none _ _ _ _ _ _ (c .before .objects .ensures) (c .if1 .taken)
 
--- src/lib.rt:272:8
 check-order-requires : tie.Need-check-order-requires
 check-order-requires c κs = search needs
 
--- src/lib.rt:273:13
 node-at-requires : tie.Need-node-at-requires
 node-at-requires c κs = search needs
 
--- src/lib.rt:274:22
 check-sub-requires : tie.Need-check-sub-requires
 check-sub-requires c κs = search needs
 
--- src/lib.rt:274:9
 whole-requires : tie.Need-whole-requires
 whole-requires c κs = search needs
 
--- src/lib.rt:274:9
 returns-2 : tie.Need-returns-2
-returns-2 c = ?
+returns-2 c = c .whole .ensures ∙ judge-whole _ _ _ _ _ _ (c .before .before .before .before .before .before .objects .ensures) (c .before .before .before .before .before .if1 .left) (sym (c .before .before .before .before .check-order .ensures) ∙ c .before .before .before .if2 .taken) _ (c .before .before .node-at .ensures) _ (c .before .check-sub .ensures)
 
--- src/lib.rt:258:1
 returns-3 : tie.Need-returns-3
-returns-3 c = ?
+returns-3 c = judge-order _ _ _ _ _ _ (c .before .before .before .objects .ensures) (c .before .before .if1 .left) (sym (c .before .check-order .ensures) ∙ c .if2 .left)
 
 pub judge-spec : {M : Type 1} → statement M
 judge-spec =

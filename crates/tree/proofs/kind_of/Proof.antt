@@ -1,58 +1,46 @@
+-- `tree::kind_of` meets its contract: each return is a case of `kindOf`. Assumes nothing.
+use mathlib.Core.Path.{sym, _∙_}
+use native.Mathlib.Omega.{arith}
+use Rattle.tree.proofs.Level.{hull-at, leaf-start, kind-out, kind-inner, kind-started, kind-leaf, kind-no-leaf}
 use borrow.Author.Needs.{needs}
 use Rattle.tree.proofs.kind_of.Statement.{statement}
 use Rattle.tree.proofs.kind_of.Tie as tie
-use Rattle.tree.proofs.kind_of.Reads as reads
-use Rattle.tree.proofs.kind_of.Lts as lts
-use Rattle.tree.proofs.hull_ok.Reads as hull-ok-reads
-use Rattle.tree.proofs.leaf_ok.Reads as leaf-ok-reads
 
--- src/lib.rt:167:8
 hull-ok-requires : tie.Need-hull-ok-requires
 hull-ok-requires c κs = search needs
 
--- src/lib.rt:170:36
 add-t11 : tie.Need-add-t11
-add-t11 c = ?
+add-t11 c = omega (arith, hull-at _ _ _ (sym (c .before .before .before .before .before .hull-ok .ensures) ∙ c .before .before .before .before .if1 .taken))
 
--- src/lib.rt:170:44
 cast-t12 : tie.Need-cast-t12
 cast-t12 c = search needs
 
--- src/lib.rt:170:17
 returns : tie.Need-returns
-returns c = ?
+returns c = kind-inner _ _ _ _ _ _ (sym (c .before .before .before .before .before .before .hull-ok .ensures) ∙ c .before .before .before .before .before .if1 .taken) (c .before .before .before .if2 .taken) (c .before .if3 .taken)
 
--- src/lib.rt:172:13
 returns-2 : tie.Need-returns-2
-returns-2 c = ?
+returns-2 c = kind-started _ _ _ _ _ _ (sym (c .before .before .before .before .before .hull-ok .ensures) ∙ c .before .before .before .before .if1 .taken) (c .before .before .if2 .taken) (c .if3 .left)
 
--- src/lib.rt:174:12
 leaf-ok-requires : tie.Need-leaf-ok-requires
 leaf-ok-requires c κs = search needs
 
--- src/lib.rt:175:31
 add-t14 : tie.Need-add-t14
-add-t14 c = ?
+add-t14 c = omega (arith, hull-at _ _ _ (sym (c .before .before .before .before .before .hull-ok .ensures) ∙ c .before .before .before .before .if1 .taken))
 
--- src/lib.rt:175:47
 cast-t15 : tie.Need-cast-t15
 cast-t15 c = search needs
 
--- src/lib.rt:175:39
 add-t16 : tie.Need-add-t16
-add-t16 c = ?
+add-t16 c = omega (arith, leaf-start _ _ _ _ (sym (c .before .before .leaf-ok .ensures) ∙ c .before .if4 .taken), c .before .before .before .before .before .before .before .good)
 
--- src/lib.rt:175:13
 returns-3 : tie.Need-returns-3
-returns-3 c = ?
+returns-3 c = kind-leaf _ _ _ _ _ _ (sym (c .before .before .before .before .before .before .hull-ok .ensures) ∙ c .before .before .before .before .before .if1 .taken) (c .before .before .before .if2 .left) (sym (c .before .before .leaf-ok .ensures) ∙ c .before .if4 .taken)
 
--- src/lib.rt:177:9
 returns-4 : tie.Need-returns-4
-returns-4 c = ?
+returns-4 c = kind-no-leaf _ _ _ _ _ _ (sym (c .before .before .before .before .before .hull-ok .ensures) ∙ c .before .before .before .before .if1 .taken) (c .before .before .if2 .left) (sym (c .before .leaf-ok .ensures) ∙ c .if4 .left)
 
--- src/lib.rt:156:1
 returns-5 : tie.Need-returns-5
-returns-5 c = ?
+returns-5 c = kind-out _ _ _ _ _ _ (sym (c .before .hull-ok .ensures) ∙ c .if1 .left)
 
 pub kind-of-spec : {M : Type 1} → statement M
 kind-of-spec =

@@ -4,11 +4,6 @@ use mathlib.Core.Path.{sym, _∙_}
 use borrow.Author.Needs.{needs}
 use Rattle.tree.proofs.leaf_ok.Statement.{statement}
 use Rattle.tree.proofs.leaf_ok.Tie as tie
-use Rattle.tree.proofs.leaf_ok.Reads as reads
-use Rattle.tree.proofs.leaf_ok.Lts as lts
-use Rattle.tree.proofs.holds_all.Reads as holds-all-reads
-use Rattle.tree.proofs.leaf_words.Reads as leaf-words-reads
-use Rattle.tree.proofs.objects.Reads as objects-reads
 
 objects-requires : tie.Need-objects-requires
 objects-requires c κs = search needs

@@ -3,10 +3,6 @@ use Rattle.tree.specs.Check.{leafWords}
 use borrow.Author.Needs.{needs}
 use Rattle.tree.proofs.leaf_words.Statement.{statement}
 use Rattle.tree.proofs.leaf_words.Tie as tie
-use Rattle.tree.proofs.leaf_words.Reads as reads
-use Rattle.tree.proofs.leaf_words.Lts as lts
-use Rattle.rules.proofs.both.Reads as both-reads
-use Rattle.tree.proofs.left_of.Reads as left-of-reads
 
 cast-both : tie.Need-cast-both
 cast-both c = search needs

@@ -7,9 +7,6 @@ use mathlib.Core.Path.{refl}
 use borrow.Author.Needs.{needs}
 use Rattle.tree.proofs.node_at.Statement.{statement}
 use Rattle.tree.proofs.node_at.Tie as tie
-use Rattle.tree.proofs.node_at.Reads as reads
-use Rattle.tree.proofs.node_at.Lts as lts
-use Rattle.vec.proofs.Vec3.splat.Reads as splat-reads
 
 mul-i : tie.Need-mul-i
 mul-i c = search needs
@@ -104,7 +101,7 @@ splat-requires-2 c κs = search needs
 
 returns-2 : tie.Need-returns-2
 unfolding vsplat
-returns-2 c = 
+returns-2 c =
     let tables = c .before .before in
     let test = tables .before .before in
     let a = test .before .args in

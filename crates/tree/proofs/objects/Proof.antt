@@ -3,9 +3,6 @@ use Rattle.boxes.proofs.Lists.{box-count}
 use borrow.Author.Needs.{needs}
 use Rattle.tree.proofs.objects.Statement.{statement}
 use Rattle.tree.proofs.objects.Tie as tie
-use Rattle.tree.proofs.objects.Reads as reads
-use Rattle.tree.proofs.objects.Lts as lts
-use Rattle.tree.proofs.object_count.Reads as object-count-reads
 
 object-count-requires : tie.Need-object-count-requires
 object-count-requires c κs = search needs

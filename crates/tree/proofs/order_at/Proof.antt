@@ -3,8 +3,6 @@ use Rattle.tree.proofs.Lists.{order-past}
 use borrow.Author.Needs.{needs}
 use Rattle.tree.proofs.order_at.Statement.{statement}
 use Rattle.tree.proofs.order_at.Tie as tie
-use Rattle.tree.proofs.order_at.Reads as reads
-use Rattle.tree.proofs.order_at.Lts as lts
 
 mul-result : tie.Need-mul-result
 mul-result c = search needs

@@ -3,8 +3,6 @@ use borrow.Author.Tests.{eq-eqb, ne-eqb}
 use borrow.Author.Needs.{needs}
 use Rattle.tree.proofs.whole.Statement.{statement}
 use Rattle.tree.proofs.whole.Tie as tie
-use Rattle.tree.proofs.whole.Reads as reads
-use Rattle.tree.proofs.whole.Lts as lts
 
 enum-told : tie.Need-enum-told
 enum-told c = search needs
