@@ -1,1 +1,5 @@
 pub mod Lists
+pub mod Vectors
+pub mod Laws
+pub mod Sound
+pub mod Distance

@@ -1,0 +1,8 @@
+pub mod Order
+pub mod Extremes
+pub mod Rounding
+pub mod Holding
+pub mod Bounds
+pub mod Signs
+pub mod Gaps
+pub mod Roots

@@ -1,0 +1,114 @@
+-- What the laws of order speak of: numbers, finite values as fractions, bounds, what rounds to what, and the extremes of a list. Definitions only.
+use Prim.Native.Nat.{ℕ, zero, suc, _+_, _*_, _≤_, _<_}
+use mathlib.Core.Path.{_≡_}
+use mathlib.Core.Bool.{Bool, true, false, not, cond}
+use mathlib.Core.List.{List, [], _∷_}
+use lib.Dec.{T}
+use lib.ListN.{length, getD}
+use lib.IntN.{pos}
+use lib.Ieee.{Float, nan, inf, fin, Format, up, round, lt}
+use lib.Ieee.Exact.{HasValue}
+use lib.Ieee.Positive.{den}
+use lib.Ieee.Scale.{finite}
+use Rattle.num.specs.F32.{_⊕_, _⊖_, _⊗_}
+use Rattle.num.specs.Extremes.{fmax, fmin}
+
+-- all but NaN
+abbrev pub number : Float → Bool
+number nan = false
+number (inf s) = true
+number (fin s m e) = true
+
+-- 0, opened
+abbrev pub zeroF : Float
+zeroF = fin false 0 (pos 0)
+
+abbrev pub minusZero : Float → Bool
+minusZero nan = false
+minusZero (inf s) = false
+minusZero (fin s zero e) = s
+minusZero (fin s (suc m) e) = false
+
+-- a number whose sign is clear
+abbrev pub clear : Float → Bool
+clear nan = false
+clear (inf s) = not s
+clear (fin s m e) = not s
+
+-- ---- a finite value as the fraction (credit - debit) / den
+abbrev pub credit : Float → ℕ
+credit nan = 0
+credit (inf s) = 0
+credit (fin false m e) = m * up e
+credit (fin true m e) = 0
+
+abbrev pub debit : Float → ℕ
+debit nan = 0
+debit (inf s) = 0
+debit (fin false m e) = 0
+debit (fin true m e) = m * up e
+
+-- x is at most y, and below y, as fractions
+abbrev pub AtMost : Float → Float → Type 0
+AtMost x y = credit x * den y + debit y * den x ≤ credit y * den x + debit x * den y
+
+abbrev pub Under : Float → Float → Type 0
+Under x y = credit x * den y + debit y * den x < credit y * den x + debit x * den y
+
+pub record Zero (x : Float) : Type 0 where
+  pub fin : T (finite x)
+  pub gain : credit x ≡ 0
+  pub loss : debit x ≡ 0
+
+-- x is finite, and no larger than b either way
+pub record Within (b : ℕ) (x : Float) : Type 0 where
+  pub finite : T (finite x)
+  pub size : credit x + debit x ≤ b * den x
+
+-- ---- rounding
+-- the format holds the number b
+abbrev pub Held : Format → ℕ → Type 0
+Held f b = HasValue (round f false b 1) false b 1
+
+-- p - n is k, or -k
+abbrev pub Apart : Bool → ℕ → ℕ → ℕ → Type 0
+Apart false k p n = p ≡ n + k
+Apart true k p n = n ≡ p + k
+
+-- r is (p - n) / c, rounded
+pub record Rounded (f : Format) (r : Float) (p n c : ℕ) : Type 0 where
+  pub sign : Bool
+  pub size : ℕ
+  pub apart : Apart sign size p n
+  pub is : r ≡ round f sign size c
+
+-- ---- extremes
+-- the nearer of a best so far and one more: the best so far, unless d is below it
+abbrev pub closer : Float → Float → Float
+closer best d = cond (lt d best) d best
+
+-- of a list, from a start on
+unfoldable pub fold : (Float → Float → Float) → Float → List Float → Float
+fold op a [] = a
+fold op a (x ∷ xs) = fold op (op a x) xs
+
+-- the greatest, the least, and the nearest as a search finds it
+abbrev pub most : Float → List Float → Float
+most = fold fmax
+
+abbrev pub least : Float → List Float → Float
+least = fold fmin
+
+abbrev pub nearest : Float → List Float → Float
+nearest = fold closer
+
+-- each number of xs stands in ys
+abbrev pub Covered : Float → List Float → List Float → Type 0
+Covered d xs ys = (i : ℕ) → i < length xs → T (number (getD xs i d)) → (j : ℕ) × (j < length ys) × (getD xs i d ≡ getD ys j d)
+
+-- ---- the gap between p and the interval from lo to hi, 0 within it; and a sum of three squares
+abbrev pub gap : Float → Float → Float → Float
+gap p lo hi = fmax (fmax (lo ⊖ p) (p ⊖ hi)) zeroF
+
+abbrev pub squares : Float → Float → Float → Float
+squares x y z = x ⊗ x ⊕ y ⊗ y ⊕ z ⊗ z
