@@ -63,23 +63,29 @@ tables stack keys s = record { stack = stack; keys = keys; state = s }
 abbrev pub twoOf : List ℕ → List Float → State → ℕ → Float → ℕ → Float → Tables
 twoOf stack keys s a ka b kb = tables (set stack (s .sp) a) (set keys (s .sp) ka) (holding s b kb (s .sp + 1))
 
+unfoldable pub squareAt : List ℕ → List Float → Vec3 → ℕ → Float
+squareAt nw nf p a = boxSquare p (nodeAt nw nf a .hull)
+
+-- two children: the farther one waits
+unfoldable pub childrenOf : List ℕ → List Float → Vec3 → List ℕ → List Float → State → ℕ → ℕ → Tables
+childrenOf nw nf p stack keys s l r =
+    cond (ltb 62 (s .sp)) (tables stack keys (ended s 2))
+    (cond (leftFirst (squareAt nw nf p l) (squareAt nw nf p r))
+    (twoOf stack keys s r (squareAt nw nf p r) l (squareAt nw nf p l))
+    (twoOf stack keys s l (squareAt nw nf p l) r (squareAt nw nf p r)))
+
+unfoldable pub scannedOf : List ℕ → List ℕ → List Float → Vec3 → List ℕ → List Float → State → Node → State
+scannedOf o w f p stack keys s v = nextOf stack keys (scanned s (leafHit w f o p (v .start) (placesOf v) (s .hit)) (placesOf v))
+
 module _ (nw : List ℕ) (nf : List Float) (o : List ℕ) (w : List ℕ) (f : List Float) (p : Vec3) where
-  unfoldable pub squareAt : ℕ → Float
-  squareAt a = boxSquare p (nodeAt nw nf a .hull)
-
-  -- both children of an interior node with places l and r
-  unfoldable pub childrenOf : List ℕ → List Float → State → ℕ → ℕ → Tables
-  childrenOf stack keys s l r =
-      cond (ltb 62 (s .sp)) (tables stack keys (ended s 2))
-      (cond (leftFirst (squareAt l) (squareAt r))
-      (twoOf stack keys s r (squareAt r) l (squareAt l))
-      (twoOf stack keys s l (squareAt l) r (squareAt r)))
-
+  -- the node in hand, near enough
   unfoldable pub openedOf : List ℕ → List Float → State → Node → Tables
   openedOf stack keys s v =
-      cond (eqb (v .count) 0)
-      (childrenOf stack keys s (s .at + 1) (v .right))
-      (tables stack keys (nextOf stack keys (scanned s (leafHit w f o p (v .start) (placesOf v) (s .hit)) (placesOf v))))
+      cond (ltb (s .at) 511)
+      (cond (eqb (v .count) 0)
+      (childrenOf nw nf p stack keys s (s .at + 1) (v .right))
+      (tables stack keys (scannedOf o w f p stack keys s v)))
+      (tables stack keys (nextOf stack keys s))
 
   -- one pop
   unfoldable pub steppedOf : List ℕ → List Float → State → Tables

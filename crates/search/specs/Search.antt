@@ -45,12 +45,15 @@ module _ (nw : List ℕ) (nf : List Float) (o : List ℕ) (w : List ℕ) (f : Li
   unfoldable pub pushed : ℕ → ℕ → List ℕ → List ℕ
   pushed l r rest = cond (lt (nodeDist l) (nodeDist r)) (l ∷ r ∷ rest) (r ∷ l ∷ rest)
 
+  -- a place past the table is popped and nothing more
   unfoldable pub turnOf : ℕ → List ℕ → DistHit → Turn
   turnOf a rest b =
       cond (le (b .d) (nodeDist a)) (on rest b 0)
+      (cond (ltb a 511)
       (cond (eqb (nodeAt nw nf a .count) 0)
       (cond (ltb 62 (length rest)) full (on (pushed (a + 1) (nodeAt nw nf a .right) rest) b 0))
       (on rest (leafHit w f o p (nodeAt nw nf a .start) (placesOf (nodeAt nw nf a)) b) (placesOf (nodeAt nw nf a))))
+      (on rest b 0))
 
   abbrev pub onTurn : Turn → (List ℕ → DistHit → ℕ → Searched) → Searched → Searched
   onTurn (on rest b c) go stop = go rest b c

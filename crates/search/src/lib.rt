@@ -1,12 +1,12 @@
 // The search of a tree for the nearest object: a stack of 64 places, each box worked out once and held as a square, so that few roots are taken.
 ghost use mathlib.Core.Path.{_≡_};
-ghost use mathlib.Core.Bool.{true};
+ghost use mathlib.Core.List.{[], _∷_};
 ghost use Prim.Native.Nat.{_+_, _-_};
 ghost use lib.ListN.{length, getD, set};
 ghost use lib.Ieee.{nan};
 ghost use Rattle.scene.specs.Nearest.{nearer};
-ghost use Rattle.search.specs.Search.{pieceIn, leafHit, placesOf, searchOf};
-ghost use Rattle.search.specs.Machine.{boxSquare, farOff, leftFirst, nextOf, squareAt, childrenOf, openedOf, steppedOf};
+ghost use Rattle.search.specs.Search.{pieceIn, leafHit, placesOf, runOf, searchOf};
+ghost use Rattle.search.specs.Machine.{boxSquare, farOff, leftFirst, holding, ended, popping, nextOf, scannedOf, tables, squareAt, childrenOf, openedOf, steppedOf};
 use scene::DistHit;
 use sdf::Aabb;
 use tree::Node;
@@ -128,29 +128,250 @@ fn key_in(keys: &[f32; 64], k: usize) -> f32
     0.0 / 0.0
 }
 
+// The state with another node in hand.
+fn holding(s: State, at: usize, key: f32, sp: usize) -> State
+    ensures { λ r. ⌜ r ≡ holding s at key sp ⌝ }
+{
+    let hit = s.hit;
+    State {
+        at,
+        key,
+        sp,
+        hit,
+        popped: s.popped,
+        evaluated: s.evaluated,
+        done: s.done,
+    }
+}
+
+fn ended(s: State, done: u32) -> State
+    ensures { λ r. ⌜ r ≡ ended s done ⌝ }
+{
+    let hit = s.hit;
+    State {
+        at: s.at,
+        key: s.key,
+        sp: s.sp,
+        hit,
+        popped: s.popped,
+        evaluated: s.evaluated,
+        done,
+    }
+}
+
+fn popping(s: State) -> State
+    ensures { λ r. ⌜ r ≡ popping s ⌝ }
+{
+    let hit = s.hit;
+    State {
+        at: s.at,
+        key: s.key,
+        sp: s.sp,
+        hit,
+        popped: std::num::wrapping_add_u32(s.popped, 1),
+        evaluated: s.evaluated,
+        done: s.done,
+    }
+}
+
 // The next waiting node in hand, or the end.
 fn next(stack: &[usize; 64], keys: &[f32; 64], s: State) -> State
     ensures { λ r. ⌜ r ≡ nextOf (now (stack .entry)) (now (keys .entry)) s ⌝ }
 {
     if s.sp == 0 {
-        return State {
-            at: s.at,
-            key: s.key,
-            sp: s.sp,
-            hit: s.hit,
-            popped: s.popped,
-            evaluated: s.evaluated,
-            done: 1,
-        };
+        return ended(s, 1);
     }
     let sp = s.sp - 1;
-    State {
-        at: place_in(stack, sp),
-        key: key_in(keys, sp),
-        sp,
-        hit: s.hit,
+    holding(s, place_in(stack, sp), key_in(keys, sp), sp)
+}
+
+// A leaf's objects evaluated, and the next node in hand.
+fn scanned(
+    ow: &[u32; 256],
+    ws: &[u32; 22288],
+    fs: &[f32; 22288],
+    p: Vec3,
+    stack: &[usize; 64],
+    keys: &[f32; 64],
+    s: State,
+    v: Node,
+) -> State
+    ensures { λ r. ⌜ r ≡ scannedOf (now (ow .entry)) (now (ws .entry)) (now (fs .entry)) p (now (stack .entry)) (now (keys .entry)) s v ⌝ }
+{
+    let c = places(v);
+    let hit = leaf_hit(ow, ws, fs, p, v.start, c, s.hit);
+    let after = State {
+        at: s.at,
+        key: s.key,
+        sp: s.sp,
+        hit,
+        popped: s.popped,
+        evaluated: std::num::wrapping_add_u32(s.evaluated, c),
+        done: s.done,
+    };
+    next(stack, keys, after)
+}
+
+// A node with its key, waiting at place sp.
+fn wait(stack: &mut [usize; 64], keys: &mut [f32; 64], sp: usize, at: usize, key: f32)
+    ensures { λ _. ⌜ (now (stack .exit) ≡ set (now (stack .entry)) sp at) × (now (keys .exit) ≡ set (now (keys .entry)) sp key) ⌝ }
+{
+    if sp < 64 {
+        stack[sp] = at;
+        keys[sp] = key;
+        return;
+    }
+    let _stack: &[usize] = stack;
+    let _keys: &[f32] = keys;
+}
+
+// The children of the node in hand: the nearer one in hand, the farther one waiting.
+fn children(
+    nw: &[u32; 4599],
+    nf: &[f32; 4599],
+    p: Vec3,
+    stack: &mut [usize; 64],
+    keys: &mut [f32; 64],
+    s: State,
+    l: usize,
+    r: usize,
+) -> State
+    ensures { λ x. ⌜ tables (now (stack .exit)) (now (keys .exit)) x ≡ childrenOf (now (nw .entry)) (now (nf .entry)) p (now (stack .entry)) (now (keys .entry)) s l r ⌝ }
+{
+    if s.sp > 62 {
+        return ended(s, 2);
+    }
+    let kl = square_at(nw, nf, p, l);
+    let kr = square_at(nw, nf, p, r);
+    if left_first(kl, kr) {
+        wait(stack, keys, s.sp, r, kr);
+        return holding(s, l, kl, s.sp + 1);
+    }
+    wait(stack, keys, s.sp, l, kl);
+    holding(s, r, kr, s.sp + 1)
+}
+
+// The node in hand, near enough.
+fn opened(
+    nw: &[u32; 4599],
+    nf: &[f32; 4599],
+    ow: &[u32; 256],
+    ws: &[u32; 22288],
+    fs: &[f32; 22288],
+    p: Vec3,
+    stack: &mut [usize; 64],
+    keys: &mut [f32; 64],
+    s: State,
+    v: Node,
+) -> State
+    ensures { λ x. ⌜ tables (now (stack .exit)) (now (keys .exit)) x ≡ openedOf (now (nw .entry)) (now (nf .entry)) (now (ow .entry)) (now (ws .entry)) (now (fs .entry)) p (now (stack .entry)) (now (keys .entry)) s v ⌝ }
+{
+    if s.at < 511 {
+        if v.count == 0 {
+            return children(nw, nf, p, stack, keys, s, s.at + 1, v.right as usize);
+        }
+        return scanned(ow, ws, fs, p, stack, keys, s, v);
+    }
+    next(stack, keys, s)
+}
+
+// One pop.
+fn step(
+    nw: &[u32; 4599],
+    nf: &[f32; 4599],
+    ow: &[u32; 256],
+    ws: &[u32; 22288],
+    fs: &[f32; 22288],
+    p: Vec3,
+    stack: &mut [usize; 64],
+    keys: &mut [f32; 64],
+    s: State,
+) -> State
+    ensures { λ x. ⌜ tables (now (stack .exit)) (now (keys .exit)) x ≡ steppedOf (now (nw .entry)) (now (nf .entry)) (now (ow .entry)) (now (ws .entry)) (now (fs .entry)) p (now (stack .entry)) (now (keys .entry)) s ⌝ }
+{
+    let hit = s.hit;
+    if far_off(s.key, hit.d) {
+        return next(stack, keys, popping(s));
+    }
+    opened(
+        nw,
+        nf,
+        ow,
+        ws,
+        fs,
+        p,
+        stack,
+        keys,
+        popping(s),
+        tree::node_at(nw, nf, s.at),
+    )
+}
+
+// From the root on, with the tables lent.
+fn run(
+    nw: &[u32; 4599],
+    nf: &[f32; 4599],
+    ow: &[u32; 256],
+    ws: &[u32; 22288],
+    fs: &[f32; 22288],
+    p: Vec3,
+    bound: DistHit,
+    stack: &mut [usize; 64],
+    keys: &mut [f32; 64],
+) -> Searched
+    ensures { λ r. ⌜ r ≡ runOf (now (nw .entry)) (now (nf .entry)) (now (ow .entry)) (now (ws .entry)) (now (fs .entry)) p 511 (0 ∷ []) bound 0 0 ⌝ }
+{
+    let mut s = State {
+        at: 0,
+        key: square_at(nw, nf, p, 0),
+        sp: 0,
+        hit: bound,
+        popped: 0,
+        evaluated: 0,
+        done: 0,
+    };
+    while s.popped < 511 {
+        s = step(nw, nf, ow, ws, fs, p, stack, keys, s);
+        if s.done > 0 {
+            let hit = s.hit;
+            return Searched {
+                hit,
+                popped: s.popped,
+                evaluated: s.evaluated,
+                whole: s.done == 1,
+            };
+        }
+    }
+    let hit = s.hit;
+    Searched {
+        hit,
         popped: s.popped,
         evaluated: s.evaluated,
-        done: s.done,
+        whole: false,
     }
+}
+
+// The nearest object by the tree, from a bound with its material.
+pub fn search(
+    nw: &[u32; 4599],
+    nf: &[f32; 4599],
+    ow: &[u32; 256],
+    ws: &[u32; 22288],
+    fs: &[f32; 22288],
+    p: Vec3,
+    bound: DistHit,
+) -> Searched
+    ensures { λ r. ⌜ r ≡ searchOf (now (nw .entry)) (now (nf .entry)) (now (ow .entry)) (now (ws .entry)) (now (fs .entry)) p bound ⌝ }
+{
+    if ws[3] == 0 {
+        return Searched {
+            hit: bound,
+            popped: 0,
+            evaluated: 0,
+            whole: true,
+        };
+    }
+    let mut stack = [0usize; 64];
+    let mut keys = [0.0f32; 64];
+    run(nw, nf, ow, ws, fs, p, bound, &mut stack, &mut keys)
 }
