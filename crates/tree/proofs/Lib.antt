@@ -1,2 +1,6 @@
 pub mod Lists
 pub mod Level
+pub mod Trees
+pub mod Marks
+pub mod Tests
+pub mod Accept

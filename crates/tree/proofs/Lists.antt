@@ -41,24 +41,28 @@ noNode = record { hull = noBox; start = 0; count = 0; right = 0 }
 pub order-past : (o : List ℕ) (i : ℕ) → length o ≡ 256 → 256 ≤ i → 0 ≡ wordOf o i
 order-past o i l h = sym (List·getD-eq-default o 0 (omega arith))
 
-module _ (w : List ℕ) (f : List Float) (lw : length w ≡ 4599) (lf : length f ≡ 4599) where
+module _ (w : List ℕ) (f : List Float) (lw : length w ≡ 4599) where
   word-past : (i : ℕ) → 4599 ≤ i → getD w i 0 ≡ 0
   word-past i h = List·getD-eq-default w 0 (omega arith)
 
-  float-past : (i : ℕ) → 4599 ≤ i → getD f i nan ≡ nan
-  float-past i h = List·getD-eq-default f nan (omega arith)
-
-  pub node-past : (at : ℕ) → 511 ≤ at → nodeAt w f at ≡ noNode
+  pub words-past : (at : ℕ) → 511 ≤ at → (nodeAt w f at .count ≡ 0) × (nodeAt w f at .right ≡ 0)
   unfolding nodeAt
-  node-past at h =
+  words-past at h = (word-past (9 * at + 7) (omega arith), word-past (9 * at + 8) (omega arith))
+
+  float-past : length f ≡ 4599 → (i : ℕ) → 4599 ≤ i → getD f i nan ≡ nan
+  float-past lf i h = List·getD-eq-default f nan (omega arith)
+
+  pub node-past : length f ≡ 4599 → (at : ℕ) → 511 ≤ at → nodeAt w f at ≡ noNode
+  unfolding nodeAt
+  node-past lf at h =
       let i : ℕ = 9 * at in
       rw (
-        float-past i (omega arith),
-        float-past (i + 1) (omega arith),
-        float-past (i + 2) (omega arith),
-        float-past (i + 3) (omega arith),
-        float-past (i + 4) (omega arith),
-        float-past (i + 5) (omega arith),
+        float-past lf i (omega arith),
+        float-past lf (i + 1) (omega arith),
+        float-past lf (i + 2) (omega arith),
+        float-past lf (i + 3) (omega arith),
+        float-past lf (i + 4) (omega arith),
+        float-past lf (i + 5) (omega arith),
         word-past (i + 6) (omega arith),
         word-past (i + 7) (omega arith),
         word-past (i + 8) (omega arith),
