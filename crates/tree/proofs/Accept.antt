@@ -11,7 +11,7 @@ use lib.ListN.{length}
 use lib.Ieee.{Float}
 use borrow.Author.Tests.{eq-eqb, eqb-true}
 use Rattle.sdf.specs.declared.Aabb.{Aabb}
-use Rattle.boxes.specs.Boxes.{finiteBox, inside}
+use Rattle.boxes.specs.Boxes.{inside}
 use Rattle.tree.specs.declared.Node.{Node}
 use Rattle.tree.specs.declared.Kind.{Kind}
 use Rattle.tree.specs.declared.Kind.the-variants.{Wrong, Leaf, Inner}
@@ -58,7 +58,7 @@ module _ (w : List ℕ) (f : List Float) (o : List ℕ) (bs : List Aabb) where
           stands = (
             i .stands ∙ ap (innerNode (v .hull)) (e ∙ ex),
             subst (λ (j : ℕ). Stands w f j s (p .tree)) (sym (i .next)) (p .stands),
-            subst₂ (λ (j k : ℕ). Stands w f j k (q .tree)) ex (p .last) (q .stands)
+            subst₂ (λ (j k : ℕ). Stands w f j k (q .tree)) ex (p .last) (q .stands),
           );
           low = omega (arith, p .low, q .low);
           boxed = (box .0, (p .within, q .within), (p .boxed, subst (λ (j : ℕ). Boxed o bs j (q .tree)) (p .last) (q .boxed)));
@@ -123,5 +123,5 @@ module _ (w : List ℕ) (f : List Float) (o : List ℕ) (bs : List Aabb) where
     pub sub-exact : (level : ℕ) (outer : Aabb) (at s a b : ℕ) → (checkOf level w f o bs outer at s ≡ Good a b) ↔ Found level outer at s a b
     sub-exact level outer at s a b = (
       sub-to level outer at s a b,
-      λ p. sub-tree level outer at s (p .tree) (p .stands) (p .low) (p .boxed) (p .within) (omega (arith, p .last, p .few)) ∙ ap₂ Good (sym (p .after)) (sym (p .last))
+      λ p. sub-tree level outer at s (p .tree) (p .stands) (p .low) (p .boxed) (p .within) (omega (arith, p .last, p .few)) ∙ ap₂ Good (sym (p .after)) (sym (p .last)),
     )

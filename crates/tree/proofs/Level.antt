@@ -1,6 +1,6 @@
 -- One level of `checkOf`, by what the node is, and what a node that is good tells of its places. Each by the tests taken. Assumes nothing.
 use Prim.Native.Nat.{ℕ, zero, suc, _+_, _-_, _<_}
-use mathlib.Core.Path.{_≡_, refl, sym, _∙_}
+use mathlib.Core.Path.{_≡_, refl, sym}
 use mathlib.Core.Bool.{Bool, true, false, cond, _&&_, and-eq-true-iff, false≢true}
 use mathlib.Core.List.{List}
 use native.Mathlib.Numerals.{sub-one}

@@ -4,3 +4,5 @@ pub mod Trees
 pub mod Marks
 pub mod Tests
 pub mod Accept
+pub mod Root
+pub mod Exact

@@ -1,15 +1,15 @@
 -- What the loops over objects and over the order table need at their start, at a turn and at their end, and what lies past the last node and the last
 -- object of the order, by the tables' lengths. Assumes nothing.
-use Prim.Native.Nat.{ℕ, zero, suc, _+_, _-_, _*_, _≤_, _<_}
-use mathlib.Core.Path.{_≡_, refl, sym, _∙_, ap}
-use mathlib.Core.Bool.{Bool, true, false, cond, _&&_, and-eq-true-iff}
+use Prim.Native.Nat.{ℕ, suc, _+_, _-_, _*_, _≤_, _<_}
+use mathlib.Core.Path.{_≡_, refl, sym}
+use mathlib.Core.Bool.{Bool, true, false, _&&_}
 use mathlib.Core.List.{List, [], _∷_, _++_}
 use native.Mathlib.Numerals.{add-one}
 use native.Mathlib.Nat.{sub-zero}
 use native.Mathlib.Omega.{arith}
 use lib.ListN.{length, getD, set, replicate, List·getD-eq-default}
 use lib.Ieee.{Float, nan}
-use borrow.Author.Tests.{lt-ltb, le-ltb, le-leb, lt-leb, leb-true, ltb-true}
+use borrow.Author.Tests.{lt-ltb, le-ltb, le-leb, lt-leb}
 use Rattle.sdf.specs.declared.Aabb.{Aabb}
 use Rattle.words.specs.Lists.{listFrom}
 use Rattle.words.proofs.Runs.{from-snoc}
@@ -17,7 +17,7 @@ use Rattle.scene.specs.Model.{wordOf}
 use Rattle.boxes.specs.Boxes.{noBox}
 use Rattle.tree.specs.declared.Node.{Node}
 use Rattle.tree.specs.Nodes.{nodeAt}
-use Rattle.tree.specs.Check.{every, heldAt, holdsAll, leafWords, marksOf, orderOk}
+use Rattle.tree.specs.Check.{every, heldAt, holdsAll, marksOf, orderOk}
 
 -- ---- the boxes of a leaf's objects
 every-snoc : (so : Bool) (bs : List Bool) (b : Bool) → every so (bs ++ (b ∷ [])) ≡ every so bs && b

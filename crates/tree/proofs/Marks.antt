@@ -41,9 +41,9 @@ module _ (o : List ℕ) (n : ℕ) where
           below = λ j g h. ⊎-elim (λ e. at-place e x) (λ e. q .below j (omega arith) (omega arith)) (eq-or-lt-of-le g);
           apart = λ j m g d h e. ⊎-elim (λ p. new m (omega arith) h (sym e ∙ ap (wordOf o) (sym p))) (λ p. q .apart j m (omega arith) d (omega arith) e) (eq-or-lt-of-le g);
           unseen = λ j g h.
-            ⊎-elim (λ e. ap (λ (p : ℕ). getD seen (wordOf o p) false) (sym e) ∙ s)
-            (λ e. sym (getD-set-other seen (wordOf o i) (wordOf o j) true false (new j e h)) ∙ q .unseen j (omega arith) (omega arith))
-            (eq-or-lt-of-le g);
+              ⊎-elim (λ e. ap (λ (p : ℕ). getD seen (wordOf o p) false) (sym e) ∙ s)
+              (λ e. sym (getD-set-other seen (wordOf o i) (wordOf o j) true false (new j e h)) ∙ q .unseen j (omega arith) (omega arith))
+              (eq-or-lt-of-le g);
         }
       where
         at-place : {j : ℕ} → i ≡ j → wordOf o i < n → wordOf o j < n
@@ -55,8 +55,8 @@ module _ (o : List ℕ) (n : ℕ) where
           below = λ j g h. q .below j (omega arith) (omega arith);
           apart = λ j m g d h. q .apart j m (omega arith) d (omega arith);
           unseen = λ j g h.
-            let ne : wordOf o j ≡ wordOf o i → ⊥ = λ e. q .apart i j (omega arith) (omega arith) (omega arith) (sym e) in
-            getD-set-other seen (wordOf o i) (wordOf o j) true false ne ∙ q .unseen j (omega arith) (omega arith);
+              let ne : wordOf o j ≡ wordOf o i → ⊥ = λ e. q .apart i j (omega arith) (omega arith) (omega arith) (sym e) in
+              getD-set-other seen (wordOf o i) (wordOf o j) true false ne ∙ q .unseen j (omega arith) (omega arith);
         }
 
   fresh : (k i : ℕ) (seen : List Bool) → n ≤ length seen → marksOf o n k i seen ≡ true → Fresh k i seen

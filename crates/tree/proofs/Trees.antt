@@ -1,6 +1,6 @@
 -- How many nodes and levels a tree has for its places, that it ends within the table, and that at most one tree stands at a place. By induction on the
 -- tree: a leaf is not empty. Assumes nothing.
-use Prim.Native.Nat.{ℕ, _+_, _*_, _≤_, _<_, max}
+use Prim.Native.Nat.{ℕ, _+_, _*_, _≤_, _<_}
 use mathlib.Core.Path.{_≡_, sym, _∙_, ap, ap₂, subst}
 use mathlib.Core.List.{List}
 use native.Mathlib.Omega.{arith}
