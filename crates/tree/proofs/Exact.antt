@@ -51,6 +51,13 @@ module _ (w : List ℕ) (f : List Float) (o : List ℕ) (bs : List Aabb) where
   holds-some : (t : Tree) → Holds w f o bs t → 0 < length bs
   holds-some t h = omega (arith, weight-above w f 0 0 t (h .stands), h .all)
 
+  -- the two answers
+  abbrev at64 : Bool
+  at64 = isGood (judgeOf 64 w f o bs)
+
+  abbrev at256 : Bool
+  at256 = isGood (judgeOf 256 w f o bs)
+
   module _ (lw : length w ≡ 4599) (few : length bs ≤ 256) where
     pub tree-exact : 0 < length bs → (isGood (judgeOf 64 w f o bs) ≡ true) ↔ ((t : Tree) × Accepted w f o bs t)
     tree-exact some = (
@@ -68,25 +75,25 @@ module _ (w : List ℕ) (f : List Float) (o : List ℕ) (bs : List Aabb) where
     none-good levels z = ap isGood (sym (judge-none levels w f o bs (length bs) refl z))
 
     -- with no objects nothing is judged
-    meets : (isGood (judgeOf 64 w f o bs) ≡ true) ↔ MeetsRules w f o bs
+    meets : (at64 ≡ true) ↔ MeetsRules w f o bs
     unfolding MeetsRules
     meets = (λ e. to e (decLe 1 (length bs)), from)
       where
-        to : isGood (judgeOf 64 w f o bs) ≡ true → Dec (1 ≤ length bs) → (length bs ≡ 0) ⊎ ((t : Tree) × Accepted w f o bs t)
+        to : at64 ≡ true → Dec (1 ≤ length bs) → (length bs ≡ 0) ⊎ ((t : Tree) × Accepted w f o bs t)
         to e (yes some) = inr (tree-exact some .0 e)
         to e (no none) = inl (omega arith)
 
-        from : (length bs ≡ 0) ⊎ ((t : Tree) × Accepted w f o bs t) → isGood (judgeOf 64 w f o bs) ≡ true
+        from : (length bs ≡ 0) ⊎ ((t : Tree) × Accepted w f o bs t) → at64 ≡ true
         from (inl z) = none-good 64 z
         from (inr p) = tree-exact (holds-some (p .0) (p .1 .holds)) .1 p
 
     pub accept-exact : T (isGood (judgeOf 64 w f o bs)) ↔ MeetsRules w f o bs
-    accept-exact = (λ e. meets .0 (is-true (isGood (judgeOf 64 w f o bs)) e), λ m. passes (isGood (judgeOf 64 w f o bs)) (meets .1 m))
+    accept-exact = (λ e. meets .0 (is-true at64 e), λ m. passes at64 (meets .1 m))
 
     pub all-but-depth : 0 < length bs → (isGood (judgeOf 256 w f o bs) ≡ true) ↔ ((t : Tree) × Holds w f o bs t)
     all-but-depth some = (λ e. let p = good-exact w f o bs lw few 256 some .0 e in (p .0, p .1 .0), from)
       where
-        from : (t : Tree) × Holds w f o bs t → isGood (judgeOf 256 w f o bs) ≡ true
+        from : (t : Tree) × Holds w f o bs t → at256 ≡ true
         from p =
             let d = depth-weight w f 0 0 (p .0) (p .1 .stands) in
             good-exact w f o bs lw few 256 some .1 (p .0, (p .1, omega (arith, d, p .1 .all)))
@@ -101,17 +108,16 @@ module _ (w : List ℕ) (f : List Float) (o : List ℕ) (bs : List Aabb) where
 
     pub offered-exact : (offeredNumber w f o bs ≡ 0) ↔ MeetsRules w f o bs
     unfolding offeredNumber
-    offered-exact =
-        Iff·trans (zero-is (isGood (judgeOf 64 w f o bs)) (cond (isGood (judgeOf 256 w f o bs)) tooDeep badTree) (refused-above (isGood (judgeOf 256 w f o bs)))) meets
+    offered-exact = Iff·trans (zero-is at64 (cond at256 tooDeep badTree) (refused-above at256)) meets
 
     -- the one tree that stands there is too deep
-    too-deep : (t : Tree) → Holds w f o bs t → 63 < depth t → isGood (judgeOf 64 w f o bs) ≡ true → ⊥
+    too-deep : (t : Tree) → Holds w f o bs t → 63 < depth t → at64 ≡ true → ⊥
     too-deep t h d e =
         let p = tree-exact (holds-some t h) .0 e in
         let q : depth (p .0) ≡ depth t = ap depth (tree-unique (p .0) t (p .1 .holds) h) in
         omega (arith, p .1 .low)
 
-    deep-to : isGood (judgeOf 64 w f o bs) ≡ false → isGood (judgeOf 256 w f o bs) ≡ true → (t : Tree) × (Holds w f o bs t × (63 < depth t))
+    deep-to : at64 ≡ false → at256 ≡ true → (t : Tree) × (Holds w f o bs t × (63 < depth t))
     deep-to e g =
         let some = some-where 64 e in
         let p = all-but-depth some .0 g in
@@ -124,29 +130,29 @@ module _ (w : List ℕ) (f : List Float) (o : List ℕ) (bs : List Aabb) where
     pub offered-deep : (offeredNumber w f o bs ≡ tooDeep) ↔ ((t : Tree) × (Holds w f o bs t × (63 < depth t)))
     unfolding offeredNumber
     offered-deep =
-        Iff·trans (deep-is (isGood (judgeOf 64 w f o bs)) (isGood (judgeOf 256 w f o bs))) (
+        Iff·trans (deep-is at64 at256) (
           λ p. deep-to (p .0) (p .1),
-          λ p. (un-true (isGood (judgeOf 64 w f o bs)) (too-deep (p .0) (p .1 .0) (p .1 .1)), all-but-depth (holds-some (p .0) (p .1 .0)) .1 (p .0, p .1 .0)),
+          λ p. (un-true at64 (too-deep (p .0) (p .1 .0) (p .1 .1)), all-but-depth (holds-some (p .0) (p .1 .0)) .1 (p .0, p .1 .0)),
         )
 
     pub offered-bad : (offeredNumber w f o bs ≡ badTree) ↔ ((0 < length bs) × ((t : Tree) → Holds w f o bs t → ⊥))
     unfolding offeredNumber
     offered-bad =
-        Iff·trans (bad-is (isGood (judgeOf 64 w f o bs)) (isGood (judgeOf 256 w f o bs))) (
+        Iff·trans (bad-is at64 at256) (
           λ p. (some-where 64 (p .0), λ t h. true≢false (sym (all-but-depth (some-where 64 (p .0)) .1 (t, h)) ∙ p .1)),
           λ p. (
-            un-true (isGood (judgeOf 64 w f o bs)) (λ e. let q = tree-exact (p .0) .0 e in p .1 (q .0) (q .1 .holds)),
-            un-true (isGood (judgeOf 256 w f o bs)) (λ e. let q = all-but-depth (p .0) .0 e in p .1 (q .0) (q .1)),
+            un-true at64 (λ e. let q = tree-exact (p .0) .0 e in p .1 (q .0) (q .1 .holds)),
+            un-true at256 (λ e. let q = all-but-depth (p .0) .0 e in p .1 (q .0) (q .1)),
           ),
         )
 
     pub standing-exact : (standingNumber w f o bs ≡ 0) ↔ MeetsRules w f o bs
     unfolding standingNumber
-    standing-exact = Iff·trans (zero-is (isGood (judgeOf 64 w f o bs)) noTree (omega arith)) meets
+    standing-exact = Iff·trans (zero-is at64 noTree (omega arith)) meets
 
     pub standing-none : (standingNumber w f o bs ≡ noTree) ↔ (MeetsRules w f o bs → ⊥)
     unfolding standingNumber
     standing-none = (
       λ e m. let q = standing-exact .1 m in omega arith,
-      λ h. rw (un-true (isGood (judgeOf 64 w f o bs)) (λ e. h (meets .0 e))),
+      λ h. rw (un-true at64 (λ e. h (meets .0 e))),
     )
