@@ -20,7 +20,7 @@ use Rattle.tree.specs.Rules.{Tree, leaf, node, hull, size, depth, Stands
 use Rattle.tree.specs.Check.{checkOf, orderOk, wholeOf, judgeOf, isGood}
 use Rattle.tree.proofs.Level.{judge-order, judge-whole}
 use Rattle.tree.proofs.Marks.{order-exact}
-use Rattle.tree.proofs.Tests.{inside-self}
+use Rattle.boxes.proofs.Laws.{inside-refl}
 use Rattle.tree.proofs.Accept.{Found, bad-good, sub-to, sub-exact}
 
 good-is : (s : Sub) → isGood s ≡ true → (a : ℕ) × (b : ℕ) × (s ≡ Good a b)
@@ -79,7 +79,7 @@ module _ (w : List ℕ) (f : List Float) (o : List ℕ) (bs : List Aabb) where
 
       judge-tree : (t : Tree) → Holds w f o bs t → depth t < levels → judgeOf levels w f o bs ≡ Good (size t) (length bs)
       judge-tree t h d =
-          let box : T (inside (hull t) (nodeAt w f 0 .hull)) = subst (λ (x : Aabb). T (inside (hull t) x)) (sym (root-hull w f 0 t (h .stands))) (inside-self (hull t) (root-finite o bs 0 t (h .boxed))) in
+          let box : T (inside (hull t) (nodeAt w f 0 .hull)) = subst (λ (x : Aabb). T (inside (hull t) x)) (sym (root-hull w f 0 t (h .stands))) (inside-refl (hull t) (root-finite o bs 0 t (h .boxed))) in
           let p : Found w f o bs levels (nodeAt w f 0 .hull) 0 0 (size t) (length bs)
           = record { tree = t; stands = h .stands; low = d; boxed = h .boxed; within = box; after = omega arith; last = omega (arith, h .all); few = omega arith } in
           let s = sub-exact w f o bs lw levels (nodeAt w f 0 .hull) 0 0 (size t) (length bs) .1 p in

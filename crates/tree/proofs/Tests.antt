@@ -2,7 +2,7 @@
 use Prim.Native.Nat.{ℕ, zero, suc, _+_, _-_, _≤_, _<_}
 use mathlib.Core.Path.{_≡_, refl, sym, _∙_, ap, subst}
 use mathlib.Core.Logic.{⊎-elim}
-use mathlib.Core.Bool.{Bool, true, false, cond, _&&_, _||_, and-eq-true-iff, false≢true}
+use mathlib.Core.Bool.{Bool, true, false, cond, _&&_, and-eq-true-iff}
 use mathlib.Core.List.{List}
 use native.Mathlib.Nat.{eq-or-lt-of-le}
 use native.Mathlib.Numerals.{add-one}
@@ -10,15 +10,10 @@ use native.Mathlib.Omega.{arith}
 use denote.Floats.{passes, is-true}
 use lib.Dec.{T, eqb, ltb, leb}
 use lib.ListN.{length}
-use lib.Ieee.{Float, nan, neg, lt, eq, le}
 use borrow.Author.Tests.{leb-true, eqb-true, eqb-false, lt-ltb, le-leb, eq-eqb}
-use Rattle.root.proofs.Nans.{unequal-nan}
-use Rattle.num.specs.Ranges.{between, magnitude}
-use Rattle.vec.specs.declared.Vec3.{Vec3}
 use Rattle.sdf.specs.declared.Aabb.{Aabb}
-use Rattle.rules.specs.Ranges.{greatest, within}
 use Rattle.scene.specs.Model.{wordOf}
-use Rattle.boxes.specs.Boxes.{finiteBox, atMost, inside, boxAt}
+use Rattle.boxes.specs.Boxes.{finiteBox, inside, boxAt}
 use Rattle.tree.specs.declared.Node.{Node}
 use Rattle.tree.specs.declared.Kind.{Kind}
 use Rattle.tree.specs.declared.Kind.the-variants.{Wrong, Leaf, Inner}
@@ -28,14 +23,6 @@ use Rattle.tree.proofs.Lists.{holds-none, holds-more}
 use Rattle.tree.proofs.Level.{cond-true}
 
 -- ---- its box
-or-true : (a : Bool) → a || true ≡ true
-or-true true = refl
-or-true false = refl
-
-nan-le : (x y : Float) → x ≡ nan → lt x y || eq x y ≡ true → ⊥
-unfolding lt eq
-nan-le x y e h = false≢true (sym (ap (λ (u : Float). lt u y || eq u y) e) ∙ h)
-
 pub hull-from : (b outer : Aabb) (at : ℕ) → at < 511 → T (finiteBox b) → T (inside b outer) → hullOk b outer at ≡ true
 unfolding hullOk
 hull-from b outer at h g k = rw (lt-ltb at 511 h, is-true (finiteBox b) g, is-true (inside b outer) k)
@@ -46,32 +33,6 @@ hull-to b outer at e =
     let p = and-eq-true-iff (ltb at 511) (finiteBox b && inside b outer) .0 e in
     let q = and-eq-true-iff (finiteBox b) (inside b outer) .0 (p .1) in
     (passes (finiteBox b) (q .0), passes (inside b outer) (q .1))
-
--- a box with finite corners lies within itself
-le-self : (x y : Float) → le x y ≡ true → le x x ≡ true
-unfolding le
-le-self x y h = by-eq (eq x x) refl
-  where
-    by-eq : (b : Bool) → eq x x ≡ b → lt x x || eq x x ≡ true
-    by-eq true e = rw (e, or-true (lt x x))
-    by-eq false e = absurd (nan-le x y (unequal-nan x e) h)
-
-magnitude-self : (x most : Float) → magnitude x most ≡ true → le x x ≡ true
-unfolding magnitude between
-magnitude-self x most e = le-self x most (and-eq-true-iff (le (neg most) x) (le x most) .0 e .1)
-
-within-self : (p : Vec3) (most : Float) → within p most ≡ true → atMost p p ≡ true
-unfolding within atMost
-within-self p most e =
-    let a = and-eq-true-iff (magnitude (p .x) most) (magnitude (p .y) most && magnitude (p .z) most) .0 e in
-    let b = and-eq-true-iff (magnitude (p .y) most) (magnitude (p .z) most) .0 (a .1) in
-    rw (magnitude-self (p .x) most (a .0), magnitude-self (p .y) most (b .0), magnitude-self (p .z) most (b .1))
-
-pub inside-self : (b : Aabb) → T (finiteBox b) → T (inside b b)
-unfolding finiteBox inside
-inside-self b h =
-    let p = and-eq-true-iff (within (b .lo) greatest) (within (b .hi) greatest) .0 (is-true (finiteBox b) h) in
-    passes (inside b b) (rw (within-self (b .lo) greatest (p .0), within-self (b .hi) greatest (p .1)))
 
 -- ---- its objects
 module _ (o : List ℕ) (bs : List Aabb) (b : Aabb) (s : ℕ) where
