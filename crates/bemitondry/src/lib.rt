@@ -1,7 +1,7 @@
 // The public calls: each tests what it is given, and answers or refuses by document 01's number.
 ghost use mathlib.Core.Path.{_≡_};
 ghost use Rattle.bemitondry.specs.Answers.{scalarOf, boxedOf, foundOf};
-ghost use Rattle.bemitondry.specs.Calls.{rootAnswer, acosAnswer, primDistAnswer, primBoundsAnswer, queryAnswer, distMatAnswer};
+ghost use Rattle.bemitondry.specs.Calls.{rootAnswer, acosAnswer, primDistAnswer, primBoundsAnswer, queryNumber, queryAnswer, withTree, queryTreeAnswer, distMatNumber, distMatAnswer, distMatTree, distMatTreeAnswer};
 ghost use Rattle.rules.specs.Prims.{shapeOf};
 use scene::DistHit;
 use sdf::Aabb;
@@ -84,7 +84,21 @@ pub fn prim_bounds(kind: u32, a: Vec3, b: Vec3, u: f32, v: f32) -> Boxed
     boxed_of(rules::prim_number(kind, s), s.bounds())
 }
 
-// The nearest object by the plain list, from a bound with any material word. `before` is a number that applies already.
+// What a query gets: `before` is a number that applies already.
+fn query_number(before: u32, ws: &[u32; 22288], fs: &[f32; 22288], p: Vec3, bound: f32) -> u32
+    ensures { λ r. ⌜ r ≡ queryNumber before (now (ws .entry)) (now (fs .entry)) p bound ⌝ }
+{
+    let given = rules::both(
+        rules::within(p, 200000.0),
+        num::magnitude(bound, 3.4028235e38),
+    );
+    rules::lower(
+        before,
+        rules::lower(rules::unless(1, given), sound::objects_number(ws, fs)),
+    )
+}
+
+// The nearest object by the plain list, from a bound with any material word.
 pub fn query_list(
     before: u32,
     ws: &[u32; 22288],
@@ -95,14 +109,7 @@ pub fn query_list(
 ) -> Found
     ensures { λ r. ⌜ r ≡ queryAnswer before (now (ws .entry)) (now (fs .entry)) p bound mat ⌝ }
 {
-    let given = rules::both(
-        rules::within(p, 200000.0),
-        num::magnitude(bound, 3.4028235e38),
-    );
-    let n = rules::lower(
-        before,
-        rules::lower(rules::unless(1, given), sound::objects_number(ws, fs)),
-    );
+    let n = query_number(before, ws, fs, p, bound);
     if n == 0 {
         return Found::Is(
             scene::query_linear(ws, fs, p, DistHit { d: bound, mat }),
@@ -113,17 +120,102 @@ pub fn query_list(
     Found::Refused(n)
 }
 
+// The number n, and where it is 0 that of the standing tree.
+fn with_tree(
+    n: u32,
+    nw: &[u32; 4599],
+    nf: &[f32; 4599],
+    ow: &[u32; 256],
+    ws: &[u32; 22288],
+    fs: &[f32; 22288],
+) -> u32
+    ensures { λ r. ⌜ r ≡ withTree n (now (nw .entry)) (now (nf .entry)) (now (ow .entry)) (now (ws .entry)) (now (fs .entry)) ⌝ }
+{
+    if n == 0 {
+        return tree::standing_number(nw, nf, ow, ws, fs);
+    }
+    n
+}
+
+// The nearest object by the tree, from a bound with any material word.
+pub fn query_tree(
+    before: u32,
+    nw: &[u32; 4599],
+    nf: &[f32; 4599],
+    ow: &[u32; 256],
+    ws: &[u32; 22288],
+    fs: &[f32; 22288],
+    p: Vec3,
+    bound: f32,
+    mat: u32,
+) -> Found
+    ensures { λ r. ⌜ r ≡ queryTreeAnswer before (now (nw .entry)) (now (nf .entry)) (now (ow .entry)) (now (ws .entry)) (now (fs .entry)) p bound mat ⌝ }
+{
+    let n = with_tree(query_number(before, ws, fs, p, bound), nw, nf, ow, ws, fs);
+    if n == 0 {
+        let s = search::search(nw, nf, ow, ws, fs, p, DistHit { d: bound, mat });
+        let hit = s.hit;
+        return Found::Is(hit, s.popped, s.evaluated);
+    }
+    Found::Refused(n)
+}
+
+fn dist_mat_number(before: u32, ws: &[u32; 22288], fs: &[f32; 22288], p: Vec3) -> u32
+    ensures { λ r. ⌜ r ≡ distMatNumber before (now (ws .entry)) (now (fs .entry)) p ⌝ }
+{
+    let s = sound::judge_solids(ws, fs);
+    rules::lower(
+        before,
+        rules::lower(rules::unless(1, rules::within(p, 200000.0)), s.number),
+    )
+}
+
 // The source's `dist_mat` by the plain list: planes, then objects.
 pub fn dist_mat_list(before: u32, ws: &[u32; 22288], fs: &[f32; 22288], p: Vec3) -> Found
     ensures { λ r. ⌜ r ≡ distMatAnswer before (now (ws .entry)) (now (fs .entry)) p ⌝ }
 {
-    let s = sound::judge_solids(ws, fs);
-    let n = rules::lower(
-        before,
-        rules::lower(rules::unless(1, rules::within(p, 200000.0)), s.number),
-    );
+    let n = dist_mat_number(before, ws, fs, p);
     if n == 0 {
         return Found::Is(scene::dist_mat_list(ws, fs, p), 0, 0);
+    }
+    Found::Refused(n)
+}
+
+// Planes by the list, then objects by the tree.
+fn dist_mat_by_tree(
+    nw: &[u32; 4599],
+    nf: &[f32; 4599],
+    ow: &[u32; 256],
+    ws: &[u32; 22288],
+    fs: &[f32; 22288],
+    p: Vec3,
+) -> DistHit
+    ensures { λ r. ⌜ r ≡ distMatTree (now (nw .entry)) (now (nf .entry)) (now (ow .entry)) (now (ws .entry)) (now (fs .entry)) p ⌝ }
+{
+    let none = DistHit {
+        d: 3.4028235e38,
+        mat: 0,
+    };
+    let planes = scene::nearest(ws, fs, 65, ws[1], p, none);
+    let s = search::search(nw, nf, ow, ws, fs, p, planes);
+    s.hit
+}
+
+// The source's `dist_mat` by the tree.
+pub fn dist_mat_tree(
+    before: u32,
+    nw: &[u32; 4599],
+    nf: &[f32; 4599],
+    ow: &[u32; 256],
+    ws: &[u32; 22288],
+    fs: &[f32; 22288],
+    p: Vec3,
+) -> Found
+    ensures { λ r. ⌜ r ≡ distMatTreeAnswer before (now (nw .entry)) (now (nf .entry)) (now (ow .entry)) (now (ws .entry)) (now (fs .entry)) p ⌝ }
+{
+    let n = with_tree(dist_mat_number(before, ws, fs, p), nw, nf, ow, ws, fs);
+    if n == 0 {
+        return Found::Is(dist_mat_by_tree(nw, nf, ow, ws, fs, p), 0, 0);
     }
     Found::Refused(n)
 }

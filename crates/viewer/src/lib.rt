@@ -94,9 +94,9 @@ pub extern "C" fn viewer_query(
     args: &[u8],
     out: &mut [u8],
 ) -> u32
-    ensures { λ n. ⌜ Sent (settled (leb 64 (length (now (out .entry)))) (queryReply (now (plan .entry)) (length (now (nodes .entry))) (length (now (order .entry))) tree (now (args .entry)))) (now (out .entry)) n (now (out .exit)) ⌝ }
+    ensures { λ n. ⌜ Sent (settled (leb 64 (length (now (out .entry)))) (queryReply (now (plan .entry)) (now (nodes .entry)) (now (order .entry)) tree (now (args .entry)))) (now (out .entry)) n (now (out .exit)) ⌝ }
 {
-    reply::answer(lent::query(plan, nodes.len(), order.len(), tree, args), out)
+    reply::answer(lent::query(plan, nodes, order, tree, args), out)
 }
 
 #[no_mangle]
@@ -108,12 +108,9 @@ pub extern "C" fn viewer_dist_mat(
     args: &[u8],
     out: &mut [u8],
 ) -> u32
-    ensures { λ n. ⌜ Sent (settled (leb 64 (length (now (out .entry)))) (distMatReply (now (plan .entry)) (length (now (nodes .entry))) (length (now (order .entry))) tree (now (args .entry)))) (now (out .entry)) n (now (out .exit)) ⌝ }
+    ensures { λ n. ⌜ Sent (settled (leb 64 (length (now (out .entry)))) (distMatReply (now (plan .entry)) (now (nodes .entry)) (now (order .entry)) tree (now (args .entry)))) (now (out .entry)) n (now (out .exit)) ⌝ }
 {
-    reply::answer(
-        lent::dist_mat(plan, nodes.len(), order.len(), tree, args),
-        out,
-    )
+    reply::answer(lent::dist_mat(plan, nodes, order, tree, args), out)
 }
 
 #[no_mangle]
