@@ -195,23 +195,22 @@ fn empty_boxes(t: &mut [f32])
     }
 }
 
-fn count_at(n: &[u32; 12], k: usize) -> u32
-    ensures { λ r. ⌜ r ≡ getD (now (n .entry)) k 0 ⌝ }
+// One more in count k.
+fn count_in(n: &mut [u32; 12], k: usize)
+    ensures { λ _. ⌜ now (n .exit) ≡ set (now (n .entry)) k (plus (getD (now (n .entry)) k 0) 1) ⌝ }
 {
     if k < 12 {
-        return n[k];
+        n[k] = plus(n[k], 1);
+    } else {
+        let _counts: &[u32] = n;
     }
-    let _counts: &[u32] = n;
-    0
 }
 
 // One box more in bin k.
 fn drop_in(t: &mut [f32; 72], n: &mut [u32; 12], k: usize, b: Aabb)
     ensures { λ _. ⌜ (now (t .exit) ≡ putBox (now (t .entry)) k (merge (boxAt (tableBoxes (now (t .entry))) k) b)) × (now (n .exit) ≡ set (now (n .entry)) k (plus (getD (now (n .entry)) k 0) 1)) ⌝ }
 {
-    if k < 12 {
-        n[k] = plus(n[k], 1);
-    }
+    count_in(n, k);
     let m = boxes::merge(box_at(t, k), b);
     put_box(t, k, m);
 }
