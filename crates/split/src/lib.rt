@@ -242,6 +242,8 @@ fn area(b: Aabb) -> f32
 fn sweep_left(b: &[f32; 72], n: &[u32; 12], areas: &mut [f32; 12], counts: &mut [u32; 12])
     ensures { λ _. ⌜ (now (areas .exit) ≡ listFrom (leftArea (binned (now (b .entry)) (now (n .entry)))) 0 12) × (now (counts .exit) ≡ listFrom (leftThrough (binned (now (b .entry)) (now (n .entry)))) 0 12) ⌝ }
 {
+    let _areas: &[f32] = areas;
+    let _counts: &[u32] = counts;
     let mut hull = boxes::nowhere();
     let mut count: u32 = 0;
     let mut i: usize = 0;

@@ -1,7 +1,8 @@
 -- `split::count_in` meets its contract. Assumes nothing.
 use borrow.Author.Needs.{needs}
+use mathlib.Core.Path.{sym, ap}
 use native.Mathlib.Omega.{arith}
-use lib.ListN.{length}
+use lib.Seq.{set-out}
 use Rattle.split.proofs.count_in.Statement.{statement}
 use Rattle.split.proofs.count_in.Tie as tie
 
@@ -21,10 +22,10 @@ element-write-n : tie.Need-element-write-n
 element-write-n c = search needs
 
 returns : tie.Need-returns
-returns c = search needs
+returns c = rw (c .plus .ensures) (cc)
 
 returns-2 : tie.Need-returns-2
-returns-2 c = search needs
+returns-2 c = sym (set-out (c .before .before .before .args .n .now) _ _ (omega arith))
 
 pub count-in-spec : {M : Type 1} → statement M
 count-in-spec =

@@ -1,0 +1,136 @@
+-- What the loops over a range and over the bins need at a turn and at their end. By the definitions, one step of each. Assumes nothing.
+use Prim.Native.Nat.{ℕ, zero, suc, _+_, _-_, _/_, _≤_, _<_}
+use mathlib.Core.Path.{_≡_, refl, sym, ap, _∙_}
+use mathlib.Core.Bool.{Bool, cond, true, false}
+use mathlib.Core.List.{List, [], _∷_, _++_}
+use native.Mathlib.Numerals.{add-one}
+use native.Mathlib.Omega.{arith}
+use lib.ListN.{length, getD, set, take, drop, replicate, replicate-append-replicate, drop-of-length-le, length-set}
+use lib.Seq.{drop-cons, take-suc-set, take-all}
+use lib.Dec.{ltb}
+use lib.Ieee.{Float, nan}
+use Rattle.sdf.specs.declared.Aabb.{Aabb}
+use Rattle.words.specs.Lists.{listFrom}
+use Rattle.words.proofs.Runs.{getD-from}
+use Rattle.boxes.specs.Boxes.{nowhere, merge, boxAt}
+use Rattle.split.specs.declared.Grid.{Grid}
+use Rattle.split.specs.declared.Span.{Span}
+use Rattle.split.specs.declared.Sweep.{Sweep}
+use Rattle.split.specs.Table.{tableBoxes, putBox}
+use Rattle.split.specs.Range.{members, grow, spanFrom, spanOf}
+use Rattle.split.specs.Bins.{binOf, plus, Bins, binned, dropIn, binsFrom, area, leftBox, leftCount, leftArea, leftThrough, takeBin, choose, stepAt, sweepFrom}
+use Rattle.split.specs.Part.{swapped, goesLeft, Parted, partFrom, parted}
+use Rattle.split.proofs.Table.{boxes-put}
+
+-- ---- over the objects of a range
+module _ (bs : List Aabb) (os : List ℕ) (i : ℕ) where
+  members-more : i < length os → members bs (drop i os) ≡ boxAt bs (getD os i 0) ∷ members bs (drop (i + 1) os)
+  unfolding members
+  members-more h = rw (drop-cons os i 0 h, add-one)
+
+  members-none : length os ≤ i → members bs (drop i os) ≡ []
+  unfolding members
+  members-none h = rw (drop-of-length-le os h)
+
+  pub span-more : (s : Span) → i < length os
+      → spanFrom s (members bs (drop i os)) ≡ spanFrom (grow s (boxAt bs (getD os i 0))) (members bs (drop (i + 1) os))
+  unfolding spanFrom
+  span-more s h = rw (members-more h)
+
+  pub span-none : (s : Span) → length os ≤ i → spanFrom s (members bs (drop i os)) ≡ s
+  unfolding spanFrom
+  span-none s h = rw (members-none h)
+
+  pub bins-more : (g : Grid) (σ : Bins) → i < length os
+      → binsFrom g σ (members bs (drop i os)) ≡ binsFrom g (dropIn g σ (boxAt bs (getD os i 0))) (members bs (drop (i + 1) os))
+  unfolding binsFrom
+  bins-more g σ h = rw (members-more h)
+
+  pub bins-none : (g : Grid) (σ : Bins) → length os ≤ i → binsFrom g σ (members bs (drop i os)) ≡ σ
+  unfolding binsFrom
+  bins-none g σ h = rw (members-none h)
+
+-- a box dropped into the two arrays is dropped into the bins that they hold
+pub drop-binned : (g : Grid) (f f' : List Float) (n n' : List ℕ) (k : ℕ) (m : Aabb) → k ≡ binOf g m
+    → f' ≡ putBox f k (merge (boxAt (tableBoxes f) k) m) → n' ≡ set n k (plus (getD n k 0) 1) → binned f' n' ≡ dropIn g (binned f n) m
+unfolding dropIn
+drop-binned g f f' n n' k m e p q = rw (p, q, boxes-put, e)
+
+-- ---- a list filled with one value
+pub same-more : {A : Type 0} (l : List A) (k : ℕ) (a : A) → k < length l → take k l ≡ replicate k a → take (k + 1) (set l k a) ≡ replicate (k + 1) a
+same-more l k a h p =
+    rw (add-one, take-suc-set l k a h, p) (replicate-append-replicate k 1 a ∙ ap (λ (n : ℕ). replicate n a) (add-one k))
+
+pub same-all : {A : Type 0} (l : List A) (k n : ℕ) (a : A) → length l ≡ n → n ≤ k → k ≤ n → take k l ≡ replicate k a → l ≡ replicate n a
+same-all l k n a e h h' p =
+    let q : k ≡ n = omega arith in
+    sym (take-all k l (omega arith)) ∙ p ∙ ap (λ (m : ℕ). replicate m a) q
+
+-- ---- over the bins
+pub left-box : (σ : Bins) (i : ℕ) → leftBox σ (i + 1) ≡ merge (leftBox σ i) (boxAt (σ .boxes) i)
+unfolding leftBox
+left-box σ i = rw add-one
+
+pub left-count : (σ : Bins) (i : ℕ) → leftCount σ (i + 1) ≡ plus (leftCount σ i) (getD (σ .counts) i 0)
+unfolding leftCount
+left-count σ i = rw add-one
+
+pub left-area : (σ : Bins) (i : ℕ) → leftArea σ i ≡ area (leftBox σ (i + 1))
+unfolding leftArea
+left-area σ i = rw add-one
+
+pub left-through : (σ : Bins) (i : ℕ) → leftThrough σ i ≡ leftCount σ (i + 1)
+unfolding leftThrough
+left-through σ i = rw add-one
+
+-- one split more, with the left sums read from their lists
+pub sweep-more : (σ : Bins) (areas : List Float) (counts : List ℕ) (i : ℕ) (s : Sweep) → 0 < i → i ≤ 11
+    → areas ≡ listFrom (leftArea σ) 0 12 → counts ≡ listFrom (leftThrough σ) 0 12
+    → sweepFrom σ i s
+    ≡ sweepFrom σ (i - 1)
+    (choose (takeBin s (boxAt (σ .boxes) i) (getD (σ .counts) i 0)) (getD areas (i - 1) nan) (getD counts (i - 1) 0) i)
+unfolding sweepFrom stepAt leftArea leftThrough
+sweep-more σ areas counts zero s h l p q = absurd (omega arith)
+sweep-more σ areas counts (suc k) s h l p q =
+    let z : suc k - 1 ≡ k = omega arith in
+    let y : 0 + k ≡ k = omega arith in
+    rw (z, p, q, getD-from (leftArea σ) 0 12 k nan (omega arith), getD-from (leftThrough σ) 0 12 k 0 (omega arith), y)
+
+pub sweep-none : (σ : Bins) (i : ℕ) (s : Sweep) → i ≤ 0 → sweepFrom σ i s ≡ s
+unfolding sweepFrom
+sweep-none σ zero s h = refl
+sweep-none σ (suc i) s h = absurd (omega arith)
+
+-- ---- over the objects that are parted
+module _ (bs : List Aabb) (g : Grid) (split n i : ℕ) where
+  part-step : (mid : ℕ) (os : List ℕ) → i < n
+      → partFrom bs g split (n - i) i mid os
+      ≡ partFrom bs g split (n - (i + 1)) (i + 1)
+      (cond (goesLeft bs g split (getD os i 0)) (mid + 1) mid)
+      (cond (goesLeft bs g split (getD os i 0)) (swapped i mid os) os)
+  unfolding partFrom
+  part-step mid os h =
+      let e : n - i ≡ suc (n - (i + 1)) = omega arith in
+      ap (λ (k : ℕ). partFrom bs g split k i mid os) e
+
+  -- by the test's outcome
+  pub part-more : (mid mid' : ℕ) (os os' : List ℕ) (b : Bool) (p : Parted) → i < n → goesLeft bs g split (getD os i 0) ≡ b
+      → mid' ≡ cond b (mid + 1) mid → os' ≡ cond b (swapped i mid os) os → partFrom bs g split (n - i) i mid os ≡ p
+      → partFrom bs g split (n - (i + 1)) (i + 1) mid' os' ≡ p
+  part-more mid mid' os os' b p h t m o q = rw (m, o, sym t) (sym (part-step mid os h) ∙ q)
+
+  pub part-none : (mid : ℕ) (os : List ℕ) (p : Parted) → n ≤ i → partFrom bs g split (n - i) i mid os ≡ p → (mid ≡ p .mid) × (os ≡ p .order)
+  unfolding partFrom
+  part-none mid os p h q =
+      let e : n - i ≡ 0 = omega arith in
+      let r = ap (λ (k : ℕ). partFrom bs g split k i mid os) (sym e) ∙ q in
+      (ap (λ (x : Parted). x .mid) r, ap (λ (x : Parted). x .order) r)
+
+pub length-swapped : (i j : ℕ) (xs : List ℕ) → length (swapped i j xs) ≡ length xs
+unfolding swapped
+length-swapped i j xs = go (ltb i (length xs)) (ltb j (length xs))
+  where
+    go : (a b : Bool) → length (cond a (cond b (set (set xs i (getD xs j 0)) j (getD xs i 0)) xs) xs) ≡ length xs
+    go true true = simp length-set
+    go true false = refl
+    go false b = refl

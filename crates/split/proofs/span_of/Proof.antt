@@ -1,0 +1,73 @@
+-- `split::span_of` meets its contract: the objects still to come are added to what is there. Assumes nothing.
+use borrow.Author.Needs.{needs}
+use Prim.Native.Nat.{_≤_, _-_}
+use mathlib.Core.Path.{_≡_, sym, _∙_}
+use native.Mathlib.Omega.{arith}
+use lib.ListN.{length, drop}
+use Rattle.split.specs.Table.{tableBoxes}
+use Rattle.split.specs.Range.{members, spanFrom, spanOf}
+use Rattle.split.proofs.Turns.{span-more, span-none}
+use Rattle.split.proofs.span_of.Statement.{statement}
+use Rattle.split.proofs.span_of.Tie as tie
+
+abbrev Inv-loop : tie.InvT-loop
+Inv-loop os t s₀ i₀ s i = (i ≤ length os) × (spanFrom s (members (tableBoxes t) (drop i os)) ≡ spanOf (tableBoxes t) os)
+
+abbrev μ-loop : tie.MeasureT-loop
+μ-loop os t s₀ i₀ s i = length os - i
+
+nowhere-requires : tie.Need-nowhere-requires Inv-loop μ-loop
+nowhere-requires c κs = search needs
+
+nowhere-requires-2 : tie.Need-nowhere-requires-2 Inv-loop μ-loop
+nowhere-requires-2 c κs = search needs
+
+loop-holds : tie.Need-loop-holds Inv-loop μ-loop
+unfolding spanOf
+loop-holds c = (search needs, rw (c .nowhere2 .ensures, c .before .nowhere .ensures))
+
+mul-box-at : tie.Need-mul-box-at Inv-loop μ-loop
+mul-box-at c = search needs
+
+shared-slice-read-box-at : tie.Need-shared-slice-read-box-at Inv-loop μ-loop
+shared-slice-read-box-at c = search needs
+
+cast-box-at : tie.Need-cast-box-at Inv-loop μ-loop
+cast-box-at c = search needs
+
+box-at-requires : tie.Need-box-at-requires Inv-loop μ-loop
+box-at-requires c κs = search needs
+
+grow-requires : tie.Need-grow-requires Inv-loop μ-loop
+grow-requires c κs = search needs
+
+add-i : tie.Need-add-i Inv-loop μ-loop
+add-i c = search needs
+
+loop-less : tie.Need-loop-less Inv-loop μ-loop
+loop-less c = search needs
+
+loop-again : tie.Need-loop-again Inv-loop μ-loop
+loop-again c = (omega arith, rw (c .grow .ensures, c .before .box-at .ensures) (sym (span-more _ _ _ _ (c .before .before .before .loop-test .taken)) ∙ c .before .before .before .before .loop .inv .1))
+
+returns : tie.Need-returns Inv-loop μ-loop
+returns c = sym (span-none _ _ _ _ (c .loop-test .left)) ∙ c .before .loop .inv .1
+
+pub span-of-spec : {M : Type 1} → statement M
+span-of-spec =
+    tie.close
+    (tie.spec
+    Inv-loop
+    μ-loop
+    nowhere-requires
+    nowhere-requires-2
+    loop-holds
+    mul-box-at
+    shared-slice-read-box-at
+    cast-box-at
+    box-at-requires
+    grow-requires
+    add-i
+    loop-less
+    loop-again
+    returns)

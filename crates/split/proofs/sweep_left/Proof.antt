@@ -1,0 +1,89 @@
+-- `split::sweep_left` meets its contract: both lists are filled up to the bin that is next. Assumes nothing.
+use borrow.Author.Needs.{needs}
+use Prim.Native.Nat.{_≤_, _-_}
+use mathlib.Core.Path.{_≡_, refl, sym, ap, _∙_}
+use native.Mathlib.Omega.{arith}
+use lib.ListN.{length, take, length-set}
+use Rattle.words.specs.Lists.{listFrom}
+use Rattle.words.proofs.Runs.{fill-none, fill-more, fill-all}
+use Rattle.split.specs.Bins.{binned, leftBox, leftCount, leftArea, leftThrough}
+use Rattle.split.proofs.Turns.{left-box, left-count, left-area, left-through}
+use Rattle.split.proofs.sweep_left.Statement.{statement}
+use Rattle.split.proofs.sweep_left.Tie as tie
+
+abbrev Inv-loop : tie.InvT-loop
+Inv-loop b n areas₀ counts₀ hull₀ count₀ i₀ areas counts hull count i = (i ≤ 12) × (length areas ≡ 12) × (length counts ≡ 12) × (hull ≡ leftBox (binned b n) i) × (count ≡ leftCount (binned b n) i) × (take i areas ≡ listFrom (leftArea (binned b n)) 0 i) × (take i counts ≡ listFrom (leftThrough (binned b n)) 0 i)
+
+abbrev μ-loop : tie.MeasureT-loop
+μ-loop b n areas₀ counts₀ hull₀ count₀ i₀ areas counts hull count i = 12 - i
+
+nowhere-requires : tie.Need-nowhere-requires Inv-loop μ-loop
+nowhere-requires c κs = search needs
+
+loop-holds : tie.Need-loop-holds Inv-loop μ-loop
+loop-holds c = search needs
+
+box-at-requires : tie.Need-box-at-requires Inv-loop μ-loop
+box-at-requires c κs = search needs
+
+merge-requires : tie.Need-merge-requires Inv-loop μ-loop
+merge-requires c κs = search needs
+
+mul-plus : tie.Need-mul-plus Inv-loop μ-loop
+mul-plus c = search needs
+
+element-copy-out-plus : tie.Need-element-copy-out-plus Inv-loop μ-loop
+element-copy-out-plus c = search needs
+
+plus-requires : tie.Need-plus-requires Inv-loop μ-loop
+plus-requires c κs = search needs
+
+area-requires : tie.Need-area-requires Inv-loop μ-loop
+area-requires c κs = search needs
+
+mul-areas : tie.Need-mul-areas Inv-loop μ-loop
+mul-areas c = search needs
+
+element-write-areas : tie.Need-element-write-areas Inv-loop μ-loop
+element-write-areas c = search needs
+
+mul-counts : tie.Need-mul-counts Inv-loop μ-loop
+mul-counts c = search needs
+
+element-write-counts : tie.Need-element-write-counts Inv-loop μ-loop
+element-write-counts c = search needs
+
+add-i : tie.Need-add-i Inv-loop μ-loop
+add-i c = search needs
+
+loop-less : tie.Need-loop-less Inv-loop μ-loop
+loop-less c = search needs
+
+loop-again : tie.Need-loop-again Inv-loop μ-loop
+loop-again c = search needs
+
+returns : tie.Need-returns Inv-loop μ-loop
+returns c = let L = c .before .loop .inv in (fill-all _ _ _ 12 (L .1) (omega arith) (omega arith) (L .5), fill-all _ _ _ 12 (L .2) (omega arith) (omega arith) (L .6))
+
+pub sweep-left-spec : {M : Type 1} → statement M
+sweep-left-spec =
+    tie.close
+    (tie.spec
+    Inv-loop
+    μ-loop
+    nowhere-requires
+    loop-holds
+    box-at-requires
+    merge-requires
+    mul-plus
+    element-copy-out-plus
+    plus-requires
+    area-requires
+    mul-areas
+    element-write-areas
+    mul-counts
+    element-write-counts
+    add-i
+    loop-less
+    loop-again
+    returns)
