@@ -20,7 +20,7 @@ use Rattle.split.specs.Table.{tableBoxes, putBox}
 use Rattle.split.specs.Range.{members, grow, spanFrom, spanOf}
 use Rattle.split.specs.Bins.{binOf, plus, Bins, binned, dropIn, binsFrom, area, leftBox, leftCount, leftArea, leftThrough, takeBin, choose, stepAt, sweepFrom}
 use Rattle.split.specs.Part.{swapped, goesLeft, Parted, partFrom, parted}
-use Rattle.split.proofs.Table.{boxes-put}
+use Rattle.split.proofs.Table.{box-count, length-put-box, boxes-put}
 
 -- ---- over the objects of a range
 module _ (bs : List Aabb) (os : List ℕ) (i : ℕ) where
@@ -41,7 +41,7 @@ module _ (bs : List Aabb) (os : List ℕ) (i : ℕ) where
   unfolding spanFrom
   span-none s h = rw (members-none h)
 
-  pub bins-more : (g : Grid) (σ : Bins) → i < length os
+  bins-more : (g : Grid) (σ : Bins) → i < length os
       → binsFrom g σ (members bs (drop i os)) ≡ binsFrom g (dropIn g σ (boxAt bs (getD os i 0))) (members bs (drop (i + 1) os))
   unfolding binsFrom
   bins-more g σ h = rw (members-more h)
@@ -51,37 +51,50 @@ module _ (bs : List Aabb) (os : List ℕ) (i : ℕ) where
   bins-none g σ h = rw (members-none h)
 
 -- a box dropped into the two arrays is dropped into the bins that they hold
-pub drop-binned : (g : Grid) (f f' : List Float) (n n' : List ℕ) (k : ℕ) (m : Aabb) → k ≡ binOf g m
+drop-binned : (g : Grid) (f f' : List Float) (n n' : List ℕ) (k : ℕ) (m : Aabb) → k ≡ binOf g m
     → f' ≡ putBox f k (merge (boxAt (tableBoxes f) k) m) → n' ≡ set n k (plus (getD n k 0) 1) → binned f' n' ≡ dropIn g (binned f n) m
 unfolding dropIn
 drop-binned g f f' n n' k m e p q = rw (p, q, boxes-put, e)
 
--- ---- a list filled with one value
-pub same-more : {A : Type 0} (l : List A) (k : ℕ) (a : A) → k < length l → take k l ≡ replicate k a → take (k + 1) (set l k a) ≡ replicate (k + 1) a
-same-more l k a h p =
-    rw (add-one, take-suc-set l k a h, p) (replicate-append-replicate k 1 a ∙ ap (λ (n : ℕ). replicate n a) (add-one k))
+pub bins-turn : (bs : List Aabb) (os : List ℕ) (i : ℕ) (g : Grid) (f f' : List Float) (n n' : List ℕ) (k : ℕ) (m : Aabb) (σ : Bins) → i < length os
+    → m ≡ boxAt bs (getD os i 0) → k ≡ binOf g m
+    → f' ≡ putBox f k (merge (boxAt (tableBoxes f) k) m) → n' ≡ set n k (plus (getD n k 0) 1)
+    → binsFrom g (binned f n) (members bs (drop i os)) ≡ σ → binsFrom g (binned f' n') (members bs (drop (i + 1) os)) ≡ σ
+bins-turn bs os i g f f' n n' k m σ h e₁ e₂ p q v =
+    rw (drop-binned g f f' n n' k m e₂ p q, e₁) (sym (bins-more bs os i g (binned f n) h) ∙ v)
 
-pub same-all : {A : Type 0} (l : List A) (k n : ℕ) (a : A) → length l ≡ n → n ≤ k → k ≤ n → take k l ≡ replicate k a → l ≡ replicate n a
-same-all l k n a e h h' p =
+-- ---- a table filled with empty boxes
+module _ (t t' : List Float) (k : ℕ) (b : Aabb) (p : t' ≡ putBox t k b) where
+  pub length-turn : length t' ≡ length t
+  length-turn = ap length p ∙ length-put-box t k b
+
+  pub empty-turn : b ≡ nowhere → k < length t / 6 → take k (tableBoxes t) ≡ replicate k nowhere → take (k + 1) (tableBoxes t') ≡ replicate (k + 1) nowhere
+  empty-turn e h q =
+      rw (p, boxes-put, e, add-one, take-suc-set (tableBoxes t) k nowhere (omega (arith, box-count t)), q)
+      (replicate-append-replicate k 1 nowhere ∙ ap (λ (n : ℕ). replicate n nowhere) (add-one k))
+
+pub empty-all : (t : List Float) (k n : ℕ) → length t / 6 ≡ n → n ≤ k → k ≤ n → take k (tableBoxes t) ≡ replicate k nowhere → tableBoxes t ≡ replicate n nowhere
+empty-all t k n e h h' p =
     let q : k ≡ n = omega arith in
-    sym (take-all k l (omega arith)) ∙ p ∙ ap (λ (m : ℕ). replicate m a) q
+    sym (take-all k (tableBoxes t) (omega (arith, box-count t))) ∙ p ∙ ap (λ (m : ℕ). replicate m nowhere) q
 
--- ---- over the bins
-pub left-box : (σ : Bins) (i : ℕ) → leftBox σ (i + 1) ≡ merge (leftBox σ i) (boxAt (σ .boxes) i)
-unfolding leftBox
-left-box σ i = rw add-one
+-- ---- over the bins, from the left
+module _ (σ : Bins) (i : ℕ) where
+  pub box-turn : (h h' m : Aabb) → h' ≡ merge h m → m ≡ boxAt (σ .boxes) i → h ≡ leftBox σ i → h' ≡ leftBox σ (i + 1)
+  unfolding leftBox
+  box-turn h h' m p q e = rw (p, q, e, add-one)
 
-pub left-count : (σ : Bins) (i : ℕ) → leftCount σ (i + 1) ≡ plus (leftCount σ i) (getD (σ .counts) i 0)
-unfolding leftCount
-left-count σ i = rw add-one
+  pub count-turn : (n n' : ℕ) → n' ≡ plus n (getD (σ .counts) i 0) → n ≡ leftCount σ i → n' ≡ leftCount σ (i + 1)
+  unfolding leftCount
+  count-turn n n' p e = rw (p, e, add-one)
 
-pub left-area : (σ : Bins) (i : ℕ) → leftArea σ i ≡ area (leftBox σ (i + 1))
-unfolding leftArea
-left-area σ i = rw add-one
+  pub area-turn : (h : Aabb) (v : Float) → v ≡ area h → h ≡ leftBox σ (i + 1) → v ≡ leftArea σ i
+  unfolding leftArea
+  area-turn h v p e = rw (p, e, add-one)
 
-pub left-through : (σ : Bins) (i : ℕ) → leftThrough σ i ≡ leftCount σ (i + 1)
-unfolding leftThrough
-left-through σ i = rw add-one
+  pub through-turn : (n : ℕ) → n ≡ leftCount σ (i + 1) → n ≡ leftThrough σ i
+  unfolding leftThrough
+  through-turn n e = rw (e, add-one)
 
 -- one split more, with the left sums read from their lists
 pub sweep-more : (σ : Bins) (areas : List Float) (counts : List ℕ) (i : ℕ) (s : Sweep) → 0 < i → i ≤ 11

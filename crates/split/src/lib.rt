@@ -82,6 +82,13 @@ pub fn object_at(os: &[u32], i: usize) -> u32
     0
 }
 
+// The box of the object at a place of a range.
+fn member(os: &[u32], t: &[f32], i: usize) -> Aabb
+    ensures { λ r. ⌜ r ≡ boxAt (tableBoxes (now (t .entry))) (getD (now (os .entry)) i 0) ⌝ }
+{
+    box_at(t, object_at(os, i) as usize)
+}
+
 fn point(b: Aabb) -> Aabb
     ensures { λ r. ⌜ r ≡ point b ⌝ }
 {
@@ -107,7 +114,7 @@ pub fn span_of(os: &[u32], t: &[f32]) -> Span
     };
     let mut i: usize = 0;
     while i < os.len() {
-        s = grow(s, box_at(t, os[i] as usize));
+        s = grow(s, member(os, t, i));
         i += 1;
     }
     s
@@ -221,7 +228,7 @@ fn fill_bins(os: &[u32], t: &[f32], g: Grid, b: &mut [f32; 72], n: &mut [u32; 12
 {
     let mut i: usize = 0;
     while i < os.len() {
-        let m = box_at(t, os[i] as usize);
+        let m = member(os, t, i);
         drop_in(b, n, bin_of(g, m), m);
         i += 1;
     }

@@ -1,13 +1,12 @@
 -- `split::empty_boxes` meets its contract: the boxes passed are empty. Assumes nothing.
 use borrow.Author.Needs.{needs}
-use Prim.Native.Nat.{_≤_, _-_, _/_}
-use mathlib.Core.Path.{_≡_, refl, sym, ap, _∙_}
+use Prim.Native.Nat.{ℕ, _≤_, _-_, _/_}
+use mathlib.Core.Path.{_≡_, refl, ap, _∙_}
 use native.Mathlib.Omega.{arith}
 use lib.ListN.{length, take, replicate}
 use Rattle.boxes.specs.Boxes.{nowhere}
 use Rattle.split.specs.Table.{tableBoxes}
-use Rattle.split.proofs.Table.{box-count, length-put-box, boxes-put}
-use Rattle.split.proofs.Turns.{same-more, same-all}
+use Rattle.split.proofs.Turns.{length-turn, empty-turn, empty-all}
 use Rattle.split.proofs.empty_boxes.Statement.{statement}
 use Rattle.split.proofs.empty_boxes.Tie as tie
 
@@ -33,16 +32,22 @@ loop-less : tie.Need-loop-less Inv-loop μ-loop
 loop-less c = search needs
 
 loop-again : tie.Need-loop-again Inv-loop μ-loop
-loop-again c = let L = c .before .before .before .loop in
-    let k = L .k in
-    let p = c .put-box .ensures ∙ ap (λ b. putBox (L .t) k b) (c .before .nowhere .ensures) in
-    (omega arith, ap length p ∙ length-put-box _ _ _ ∙ L .inv .1, ?)
+loop-again c = let L = c .before .before .before .before .before .before .loop in
+    let p = c .before .before .put-box .ensures in
+    let h = c .before .before .before .before .before .loop-test .taken in
+    (
+      omega arith,
+      length-turn (L .t) _ (L .k) _ p ∙ L .inv .1,
+      empty-turn (L .t) _ (L .k) _ p (c .before .before .before .nowhere .ensures) h (L .inv .2),
+    )
 
 same-length : tie.Need-same-length Inv-loop μ-loop
 same-length c = search needs
 
 returns : tie.Need-returns Inv-loop μ-loop
-returns c = same-all _ _ _ _ (box-count _ ∙ ?) (omega arith) (omega arith) (c .before .loop .inv .2)
+returns c = let L = c .before .loop in
+    let t = c .before .before .before .args .t .now in
+    empty-all (L .t) (L .k) (length t / 6) (ap (λ (n : ℕ). n / 6) (L .inv .1)) (omega arith) (omega arith) (L .inv .2)
 
 pub empty-boxes-spec : {M : Type 1} → statement M
 empty-boxes-spec =

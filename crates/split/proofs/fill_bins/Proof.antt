@@ -1,13 +1,13 @@
 -- `split::fill_bins` meets its contract: the objects still to come are dropped into what is there. Assumes nothing.
 use borrow.Author.Needs.{needs}
 use Prim.Native.Nat.{_≤_, _-_}
-use mathlib.Core.Path.{_≡_, refl, sym, ap, _∙_}
+use mathlib.Core.Path.{_≡_, refl, sym, _∙_}
 use native.Mathlib.Omega.{arith}
 use lib.ListN.{length, drop}
 use Rattle.split.specs.Table.{tableBoxes}
 use Rattle.split.specs.Range.{members}
 use Rattle.split.specs.Bins.{binned, binsFrom}
-use Rattle.split.proofs.Turns.{bins-more, bins-none, drop-binned}
+use Rattle.split.proofs.Turns.{bins-turn, bins-none}
 use Rattle.split.proofs.fill_bins.Statement.{statement}
 use Rattle.split.proofs.fill_bins.Tie as tie
 
@@ -20,17 +20,8 @@ abbrev μ-loop : tie.MeasureT-loop
 loop-holds : tie.Need-loop-holds Inv-loop μ-loop
 loop-holds c = (search needs, refl)
 
-mul-box-at : tie.Need-mul-box-at Inv-loop μ-loop
-mul-box-at c = search needs
-
-shared-slice-read-box-at : tie.Need-shared-slice-read-box-at Inv-loop μ-loop
-shared-slice-read-box-at c = search needs
-
-cast-box-at : tie.Need-cast-box-at Inv-loop μ-loop
-cast-box-at c = search needs
-
-box-at-requires : tie.Need-box-at-requires Inv-loop μ-loop
-box-at-requires c κs = search needs
+member-requires : tie.Need-member-requires Inv-loop μ-loop
+member-requires c κs = search needs
 
 bin-of-requires : tie.Need-bin-of-requires Inv-loop μ-loop
 bin-of-requires c κs = search needs
@@ -45,9 +36,13 @@ loop-less : tie.Need-loop-less Inv-loop μ-loop
 loop-less c = search needs
 
 loop-again : tie.Need-loop-again Inv-loop μ-loop
-loop-again c = let d = c .drop-in .ensures in
-    let e = drop-binned _ _ _ _ _ _ _ (c .before .bin-of .ensures) (d .0) (d .1) in
-    (omega arith, rw (e, c .before .before .before .before .box-at .ensures) (sym (bins-more _ _ _ _ _ (c .before .before .before .before .before .before .loop-test .taken)) ∙ c .before .before .before .before .before .before .before .loop .inv .1))
+loop-again c = let L = c .before .before .before .before .before .before .loop in
+    let a = c .before .before .before .before .before .before .before .before .before .args in
+    let d = c .drop-in .ensures in
+    (
+      omega arith,
+      bins-turn _ (a .os .now) (L .i) (a .g) (L .b) _ (L .n) _ _ _ _ (c .before .before .before .before .before .loop-test .taken) (c .before .before .before .before .member .ensures) (c .before .bin-of .ensures) (d .0) (d .1) (L .inv .1),
+    )
 
 returns : tie.Need-returns Inv-loop μ-loop
 returns c = sym (bins-none _ _ _ _ _ (c .loop-test .left)) ∙ c .before .loop .inv .1
@@ -59,10 +54,7 @@ fill-bins-spec =
     Inv-loop
     μ-loop
     loop-holds
-    mul-box-at
-    shared-slice-read-box-at
-    cast-box-at
-    box-at-requires
+    member-requires
     bin-of-requires
     drop-in-requires
     add-i

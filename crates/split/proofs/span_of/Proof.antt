@@ -26,17 +26,8 @@ loop-holds : tie.Need-loop-holds Inv-loop μ-loop
 unfolding spanOf
 loop-holds c = (search needs, rw (c .nowhere2 .ensures, c .before .nowhere .ensures))
 
-mul-box-at : tie.Need-mul-box-at Inv-loop μ-loop
-mul-box-at c = search needs
-
-shared-slice-read-box-at : tie.Need-shared-slice-read-box-at Inv-loop μ-loop
-shared-slice-read-box-at c = search needs
-
-cast-box-at : tie.Need-cast-box-at Inv-loop μ-loop
-cast-box-at c = search needs
-
-box-at-requires : tie.Need-box-at-requires Inv-loop μ-loop
-box-at-requires c κs = search needs
+member-requires : tie.Need-member-requires Inv-loop μ-loop
+member-requires c κs = search needs
 
 grow-requires : tie.Need-grow-requires Inv-loop μ-loop
 grow-requires c κs = search needs
@@ -48,7 +39,7 @@ loop-less : tie.Need-loop-less Inv-loop μ-loop
 loop-less c = search needs
 
 loop-again : tie.Need-loop-again Inv-loop μ-loop
-loop-again c = (omega arith, rw (c .grow .ensures, c .before .box-at .ensures) (sym (span-more _ _ _ _ (c .before .before .before .loop-test .taken)) ∙ c .before .before .before .before .loop .inv .1))
+loop-again c = (omega arith, rw (c .grow .ensures, c .before .member .ensures) (sym (span-more _ _ _ _ (c .before .before .loop-test .taken)) ∙ c .before .before .before .loop .inv .1))
 
 returns : tie.Need-returns Inv-loop μ-loop
 returns c = sym (span-none _ _ _ _ (c .loop-test .left)) ∙ c .before .loop .inv .1
@@ -62,10 +53,7 @@ span-of-spec =
     nowhere-requires
     nowhere-requires-2
     loop-holds
-    mul-box-at
-    shared-slice-read-box-at
-    cast-box-at
-    box-at-requires
+    member-requires
     grow-requires
     add-i
     loop-less

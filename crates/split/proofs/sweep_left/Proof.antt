@@ -7,7 +7,7 @@ use lib.ListN.{length, take, length-set}
 use Rattle.words.specs.Lists.{listFrom}
 use Rattle.words.proofs.Runs.{fill-none, fill-more, fill-all}
 use Rattle.split.specs.Bins.{binned, leftBox, leftCount, leftArea, leftThrough}
-use Rattle.split.proofs.Turns.{left-box, left-count, left-area, left-through}
+use Rattle.split.proofs.Turns.{box-turn, count-turn, area-turn, through-turn}
 use Rattle.split.proofs.sweep_left.Statement.{statement}
 use Rattle.split.proofs.sweep_left.Tie as tie
 
@@ -21,6 +21,7 @@ nowhere-requires : tie.Need-nowhere-requires Inv-loop μ-loop
 nowhere-requires c κs = search needs
 
 loop-holds : tie.Need-loop-holds Inv-loop μ-loop
+unfolding leftBox leftCount listFrom
 loop-holds c = search needs
 
 box-at-requires : tie.Need-box-at-requires Inv-loop μ-loop
@@ -60,7 +61,20 @@ loop-less : tie.Need-loop-less Inv-loop μ-loop
 loop-less c = search needs
 
 loop-again : tie.Need-loop-again Inv-loop μ-loop
-loop-again c = search needs
+loop-again c = let L = c .before .before .before .before .before .before .before .loop in
+    let a = c .before .before .before .before .before .before .before .before .before .before .before .before .before .args in
+    let σ = binned (a .b .now) (a .n .now) in
+    let h = box-turn σ (L .i) _ _ _ (c .before .before .before .merge .ensures) (c .before .before .before .before .box-at .ensures) (L .inv .3) in
+    let n = count-turn σ (L .i) _ _ (c .before .plus .ensures) (L .inv .4) in
+    (
+      omega arith,
+      search needs,
+      search needs,
+      h,
+      n,
+      fill-more _ (L .areas) (L .i) _ (omega arith) (area-turn σ (L .i) _ _ (c .area .ensures) h) (L .inv .5),
+      fill-more _ (L .counts) (L .i) _ (omega arith) (through-turn σ (L .i) _ n) (L .inv .6),
+    )
 
 returns : tie.Need-returns Inv-loop μ-loop
 returns c = let L = c .before .loop .inv in (fill-all _ _ _ 12 (L .1) (omega arith) (omega arith) (L .5), fill-all _ _ _ 12 (L .2) (omega arith) (omega arith) (L .6))
