@@ -1,6 +1,6 @@
 -- A box put into a table of boxes is put into the list of its boxes, and so for each place of the list. By the place of each float. Assumes nothing.
 use Prim.Native.Nat.{ℕ, suc, _+_, _-_, _*_, _/_, _≤_, _<_}
-use mathlib.Core.Path.{_≡_, refl, sym, ap, subst, _∙_}
+use mathlib.Core.Path.{_≡_, sym, ap, subst, _∙_}
 use mathlib.Core.Logic.{_⊎_, ⊎-elim, inl, inr}
 use mathlib.Core.List.{List, [], _∷_, _++_, append-assoc}
 use native.Mathlib.Nat.{add-zero}
@@ -11,7 +11,6 @@ use lib.Seq.{sets-eq, set-out, length-take-le, getD-take, getD-drop, getD-append
 use lib.Ieee.{Float, nan}
 use borrow.Author.Tests.{lt-ltb, le-ltb}
 use Rattle.sdf.specs.declared.Aabb.{Aabb}
-use Rattle.words.specs.Lists.{listFrom}
 use Rattle.words.proofs.Laws.{less-or}
 use Rattle.words.proofs.Runs.{getD-from, getD-past, length-from}
 use Rattle.boxes.specs.Boxes.{boxAt, noBox}

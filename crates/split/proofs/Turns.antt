@@ -2,7 +2,7 @@
 use Prim.Native.Nat.{ℕ, zero, suc, _+_, _-_, _/_, _≤_, _<_}
 use mathlib.Core.Path.{_≡_, refl, sym, ap, _∙_}
 use mathlib.Core.Bool.{Bool, cond, true, false}
-use mathlib.Core.List.{List, [], _∷_, _++_}
+use mathlib.Core.List.{List, [], _∷_}
 use native.Mathlib.Numerals.{add-one}
 use native.Mathlib.Omega.{arith}
 use lib.ListN.{length, getD, set, take, drop, replicate, replicate-append-replicate, drop-of-length-le, length-set}
@@ -17,9 +17,9 @@ use Rattle.split.specs.declared.Grid.{Grid}
 use Rattle.split.specs.declared.Span.{Span}
 use Rattle.split.specs.declared.Sweep.{Sweep}
 use Rattle.split.specs.Table.{tableBoxes, putBox}
-use Rattle.split.specs.Range.{members, grow, spanFrom, spanOf}
-use Rattle.split.specs.Bins.{binOf, plus, Bins, binned, dropIn, binsFrom, area, leftBox, leftCount, leftArea, leftThrough, takeBin, choose, stepAt, sweepFrom}
-use Rattle.split.specs.Part.{swapped, goesLeft, Parted, partFrom, parted}
+use Rattle.split.specs.Range.{members, grow, spanFrom}
+use Rattle.split.specs.Bins.{binOf, plus, Bins, binned, noBins, dropIn, binsFrom, area, leftBox, leftCount, leftArea, leftThrough, takeBin, choose, stepAt, sweepFrom, splitBy}
+use Rattle.split.specs.Part.{swapped, goesLeft, Parted, partFrom}
 use Rattle.split.proofs.Table.{box-count, length-put-box, boxes-put}
 
 -- ---- over the objects of a range
@@ -113,6 +113,16 @@ pub sweep-none : (σ : Bins) (i : ℕ) (s : Sweep) → i ≤ 0 → sweepFrom σ 
 unfolding sweepFrom
 sweep-none σ zero s h = refl
 sweep-none σ (suc i) s h = absurd (omega arith)
+
+-- the bins of a range, filled and swept, from what each step says
+pub best-of : (g : Grid) (ms : List Aabb) (f f' : List Float) (n n' : List ℕ) (areas : List Float) (counts : List ℕ) (m r : ℕ) → m ≡ 12 → n ≡ replicate 12 0
+    → tableBoxes f ≡ replicate m nowhere → binned f' n' ≡ binsFrom g (binned f n) ms
+    → (areas ≡ listFrom (leftArea (binned f' n')) 0 12) × (counts ≡ listFrom (leftThrough (binned f' n')) 0 12)
+    → (areas ≡ listFrom (leftArea (binned f' n')) 0 12 → counts ≡ listFrom (leftThrough (binned f' n')) 0 12 → r ≡ splitBy (binned f' n'))
+    → r ≡ splitBy (binsFrom g noBins ms)
+best-of g ms f f' n n' areas counts m r e₁ e₂ p q l s =
+    let e : binned f n ≡ noBins = rw (p, e₁, e₂) in
+    s (l .0) (l .1) ∙ ap splitBy (q ∙ ap (λ (σ : Bins). binsFrom g σ ms) e)
 
 -- ---- over the objects that are parted
 module _ (bs : List Aabb) (g : Grid) (split n i : ℕ) where

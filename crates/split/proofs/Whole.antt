@@ -1,8 +1,8 @@
 -- A float cut to a whole number, by the tests with 0 and with 11: what the cut asks for, and what it gives. By the cases of a value. Assumes nothing.
 use Prim.Native.Nat.{ℕ, _+_, _*_, _/_, _^_, _≤_, _<_}
 use mathlib.Core.Path.{_≡_, refl, sym, ap, subst, _∙_}
-use mathlib.Core.Bool.{Bool, true, false}
-use native.Mathlib.Nat.{zero-div, mul-one, one-mul, div-lt-iff-lt-mul, le-div-iff-mul-le, lt-of-lt-of-le, mul-le-mul-right}
+use mathlib.Core.Bool.{true, false}
+use native.Mathlib.Nat.{zero-div, mul-one, div-lt-iff-lt-mul, le-div-iff-mul-le, lt-of-lt-of-le, mul-le-mul-right}
 use native.Mathlib.Omega.{arith}
 use borrow.Author.Needs.{zero≤}
 use borrow.Author.Tests.{lt-ltb, ltb-true, ltb-false}

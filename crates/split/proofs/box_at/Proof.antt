@@ -1,6 +1,5 @@
 -- `split::box_at` meets its contract. Assumes nothing.
 use borrow.Author.Needs.{needs}
-use mathlib.Core.Path.{_≡_, sym, _∙_}
 use Rattle.vec.specs.Vec.{vsplat}
 use Rattle.root.proofs.Nans.{zero-by-zero}
 use Rattle.split.proofs.Table.{box-here, box-past}

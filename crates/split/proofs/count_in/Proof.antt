@@ -1,6 +1,6 @@
 -- `split::count_in` meets its contract. Assumes nothing.
 use borrow.Author.Needs.{needs}
-use mathlib.Core.Path.{sym, ap}
+use mathlib.Core.Path.{sym}
 use native.Mathlib.Omega.{arith}
 use lib.Seq.{set-out}
 use Rattle.split.proofs.count_in.Statement.{statement}

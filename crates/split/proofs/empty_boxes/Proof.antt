@@ -34,8 +34,7 @@ loop-less c = search needs
 loop-again : tie.Need-loop-again Inv-loop μ-loop
 loop-again c = let L = c .before .before .before .before .before .before .loop in
     let p = c .before .before .put-box .ensures in
-    let h = c .before .before .before .before .before .loop-test .taken in
-    (
+    let h = c .before .before .before .before .before .loop-test .taken in (
       omega arith,
       length-turn (L .t) _ (L .k) _ p ∙ L .inv .1,
       empty-turn (L .t) _ (L .k) _ p (c .before .before .before .nowhere .ensures) h (L .inv .2),

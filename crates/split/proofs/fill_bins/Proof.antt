@@ -38,8 +38,7 @@ loop-less c = search needs
 loop-again : tie.Need-loop-again Inv-loop μ-loop
 loop-again c = let L = c .before .before .before .before .before .before .loop in
     let a = c .before .before .before .before .before .before .before .before .before .args in
-    let d = c .drop-in .ensures in
-    (
+    let d = c .drop-in .ensures in (
       omega arith,
       bins-turn _ (a .os .now) (L .i) (a .g) (L .b) _ (L .n) _ _ _ _ (c .before .before .before .before .before .loop-test .taken) (c .before .before .before .before .member .ensures) (c .before .bin-of .ensures) (d .0) (d .1) (L .inv .1),
     )

@@ -1,11 +1,11 @@
 -- `split::sweep_left` meets its contract: both lists are filled up to the bin that is next. Assumes nothing.
 use borrow.Author.Needs.{needs}
 use Prim.Native.Nat.{_≤_, _-_}
-use mathlib.Core.Path.{_≡_, refl, sym, ap, _∙_}
+use mathlib.Core.Path.{_≡_}
 use native.Mathlib.Omega.{arith}
-use lib.ListN.{length, take, length-set}
+use lib.ListN.{length, take}
 use Rattle.words.specs.Lists.{listFrom}
-use Rattle.words.proofs.Runs.{fill-none, fill-more, fill-all}
+use Rattle.words.proofs.Runs.{fill-more, fill-all}
 use Rattle.split.specs.Bins.{binned, leftBox, leftCount, leftArea, leftThrough}
 use Rattle.split.proofs.Turns.{box-turn, count-turn, area-turn, through-turn}
 use Rattle.split.proofs.sweep_left.Statement.{statement}
@@ -65,8 +65,7 @@ loop-again c = let L = c .before .before .before .before .before .before .before
     let a = c .before .before .before .before .before .before .before .before .before .before .before .before .before .args in
     let σ = binned (a .b .now) (a .n .now) in
     let h = box-turn σ (L .i) _ _ _ (c .before .before .before .merge .ensures) (c .before .before .before .before .box-at .ensures) (L .inv .3) in
-    let n = count-turn σ (L .i) _ _ (c .before .plus .ensures) (L .inv .4) in
-    (
+    let n = count-turn σ (L .i) _ _ (c .before .plus .ensures) (L .inv .4) in (
       omega arith,
       search needs,
       search needs,

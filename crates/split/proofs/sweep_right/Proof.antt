@@ -1,7 +1,7 @@
 -- `split::sweep_right` meets its contract: the splits still to come, tried from what is there. Assumes nothing.
 use borrow.Author.Needs.{needs}
 use Prim.Native.Nat.{_≤_}
-use mathlib.Core.Path.{_≡_, refl, sym, ap, _∙_}
+use mathlib.Core.Path.{_≡_, sym, ap, _∙_}
 use native.Mathlib.Omega.{arith}
 use Rattle.words.specs.Lists.{listFrom}
 use Rattle.split.specs.Bins.{binned, leftArea, leftThrough, noSweep, sweepFrom, splitBy}
