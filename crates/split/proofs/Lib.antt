@@ -1,3 +1,5 @@
 pub mod Whole
 pub mod Table
 pub mod Turns
+pub mod Perms
+pub mod Cuts

@@ -1,13 +1,12 @@
 -- What the loops over a range and over the bins need at a turn and at their end. By the definitions, one step of each. Assumes nothing.
 use Prim.Native.Nat.{ℕ, zero, suc, _+_, _-_, _/_, _≤_, _<_}
 use mathlib.Core.Path.{_≡_, refl, sym, ap, _∙_}
-use mathlib.Core.Bool.{Bool, cond, true, false}
+use mathlib.Core.Bool.{Bool, cond}
 use mathlib.Core.List.{List, [], _∷_}
 use native.Mathlib.Numerals.{add-one}
 use native.Mathlib.Omega.{arith}
-use lib.ListN.{length, getD, set, take, drop, replicate, replicate-append-replicate, drop-of-length-le, length-set}
+use lib.ListN.{length, getD, set, take, drop, replicate, replicate-append-replicate, drop-of-length-le}
 use lib.Seq.{drop-cons, take-suc-set, take-all}
-use lib.Dec.{ltb}
 use lib.Ieee.{Float, nan}
 use Rattle.sdf.specs.declared.Aabb.{Aabb}
 use Rattle.words.specs.Lists.{listFrom}
@@ -148,12 +147,3 @@ module _ (bs : List Aabb) (g : Grid) (split n i : ℕ) where
       let e : n - i ≡ 0 = omega arith in
       let r = ap (λ (k : ℕ). partFrom bs g split k i mid os) (sym e) ∙ q in
       (ap (λ (x : Parted). x .mid) r, ap (λ (x : Parted). x .order) r)
-
-pub length-swapped : (i j : ℕ) (xs : List ℕ) → length (swapped i j xs) ≡ length xs
-unfolding swapped
-length-swapped i j xs = go (ltb i (length xs)) (ltb j (length xs))
-  where
-    go : (a b : Bool) → length (cond a (cond b (set (set xs i (getD xs j 0)) j (getD xs i 0)) xs) xs) ≡ length xs
-    go true true = simp length-set
-    go true false = refl
-    go false b = refl

@@ -9,7 +9,8 @@ use native.Mathlib.Omega.{arith}
 use lib.ListN.{length}
 use Rattle.split.specs.Table.{tableBoxes}
 use Rattle.split.specs.Part.{partFrom, parted}
-use Rattle.split.proofs.Turns.{part-more, part-none, length-swapped}
+use Rattle.split.proofs.Cuts.{length-swapped}
+use Rattle.split.proofs.Turns.{part-more, part-none}
 use Rattle.split.proofs.partition.Statement.{statement}
 use Rattle.split.proofs.partition.Tie as tie
 
