@@ -137,6 +137,26 @@ fn build_with(
     build_recursive(nw, os, t, 0, 0, 64)
 }
 
+// The tree of n objects, the first n places of the order being theirs.
+fn build_front(
+    ws: &[u32; 22288],
+    fs: &[f32; 22288],
+    nw: &mut [u32; 4599],
+    ow: &mut [u32],
+    n: usize,
+) -> Built
+    ensures { λ r. ⌜ (n ≡ countObjects (now (ws .entry)) → length (now (ow .entry)) ≡ 256 → 0 < n → n ≤ 256 → Builds (now (ws .entry)) (now (fs .entry)) (now (nw .entry)) (now (ow .entry)) r (now (nw .exit)) (now (ow .exit))) ⌝ }
+{
+    if n > ow.len() {
+        return Built {
+            next: 0,
+            low: false,
+        };
+    }
+    let mut t = [0.0f32; 1536];
+    build_with(ws, fs, nw, &mut ow[..n], &mut t)
+}
+
 // The tree of a plan's objects, in tables that stand as they are past it.
 pub fn build(
     ws: &[u32; 22288],
@@ -147,15 +167,8 @@ pub fn build(
     ensures { λ r. ⌜ (countObjects (now (ws .entry)) ≤ 256 → Builds (now (ws .entry)) (now (fs .entry)) (now (nw .entry)) (now (ow .entry)) r (now (nw .exit)) (now (ow .exit))) ⌝ }
 {
     let n = objects(ws) as usize;
-    if n > 256 {
-        return Built {
-            next: 0,
-            low: false,
-        };
-    }
     if n == 0 {
         return Built { next: 0, low: true };
     }
-    let mut t = [0.0f32; 1536];
-    build_with(ws, fs, nw, &mut ow[..n], &mut t)
+    build_front(ws, fs, nw, ow, n)
 }
