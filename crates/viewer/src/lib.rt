@@ -5,6 +5,7 @@ ghost use lib.Dec.{leb};
 ghost use Rattle.reply.specs.Replies.{settled, Sent};
 ghost use Rattle.viewer.specs.Calls.{rootReply, acosReply, primDistReply, primBoundsReply};
 ghost use Rattle.lent.specs.Queries.{queryReply, distMatReply};
+ghost use Rattle.stand.specs.Stand.{BuildSent, OfferSent};
 ghost use Rattle.enter.specs.Enter.{MaterialSent, LightSent, PlaneSent, ObjectSent};
 use reply::Reply;
 
@@ -154,4 +155,32 @@ pub extern "C" fn viewer_add_object(
     enter::clear(done, nodes, 18396);
     enter::clear(done, order, 1024);
     reply::answer(enter::added_reply(a), out)
+}
+
+#[no_mangle]
+pub extern "C" fn viewer_build(
+    plan: &[u8],
+    nodes: &mut [u8],
+    order: &mut [u8],
+    out: &mut [u8],
+) -> u32
+    ensures { λ n. ⌜ BuildSent (now (plan .entry)) (now (nodes .entry)) (now (order .entry)) (now (out .entry)) n (now (nodes .exit)) (now (order .exit)) (now (out .exit)) ⌝ }
+{
+    let r = stand::build(plan, nodes, order, out.len());
+    reply::answer(stand::raised_reply(r), out)
+}
+
+#[no_mangle]
+pub extern "C" fn viewer_offer(
+    plan: &[u8],
+    nodes: &mut [u8],
+    order: &mut [u8],
+    given: &[u8],
+    ranks: &[u8],
+    out: &mut [u8],
+) -> u32
+    ensures { λ n. ⌜ OfferSent (now (plan .entry)) (now (nodes .entry)) (now (order .entry)) (now (given .entry)) (now (ranks .entry)) (now (out .entry)) n (now (nodes .exit)) (now (order .exit)) (now (out .exit)) ⌝ }
+{
+    let r = stand::offer(plan, nodes, order, given, ranks, out.len());
+    reply::answer(stand::raised_reply(r), out)
 }
