@@ -1,29 +1,26 @@
 -- On an accepted tree the run over the stack is the walk of the tree: the stack never needs a 65th place, and 511 pops are enough. By induction on the tree:
 -- a run that has the tree on top of its stack goes on with what waited below, and one pop for each node of the tree at most is gone. Assumes nothing.
-use Prim.Native.Nat.{ℕ, zero, suc, _+_, _-_, _≤_, _<_, max, min}
-use mathlib.Core.Path.{_≡_, refl, sym, _∙_, ap}
+use Prim.Native.Nat.{ℕ, zero, suc, _+_, _-_, _≤_, _<_, min}
+use mathlib.Core.Path.{_≡_, refl, _∙_}
 use mathlib.Core.Bool.{Bool, true, false, cond}
-use mathlib.Core.List.{List, [], _∷_, _++_}
+use mathlib.Core.List.{List, [], _∷_}
 use native.Mathlib.Nat.{add-zero}
 use native.Mathlib.Omega.{arith}
-use lib.Dec.{eqb}
 use lib.ListN.{length, length-append}
 use lib.Ieee.{Float, lt, le}
 use borrow.Author.Tests.{lt-ltb, le-ltb, ne-eqb}
 use Rattle.vec.specs.declared.Vec3.{Vec3}
 use Rattle.sdf.specs.declared.Aabb.{Aabb}
 use Rattle.sdf.specs.Boxes.{boxDist}
-use Rattle.words.specs.Lists.{listFrom}
 use Rattle.words.proofs.Runs.{length-from}
 use Rattle.scene.specs.declared.DistHit.{DistHit}
 use Rattle.scene.specs.Model.{countObjects}
-use Rattle.tree.specs.declared.Node.{Node}
 use Rattle.tree.specs.Nodes.{nodeAt, leafNode, innerNode}
-use Rattle.tree.specs.Rules.{Tree, leaf, node, hull, size, weight, depth, Stands, Accepted}
+use Rattle.tree.specs.Rules.{Tree, leaf, node, size, weight, depth, Stands, Accepted}
 use Rattle.tree.proofs.Trees.{weight-above, stands-fit, stands-below}
 use Rattle.search.specs.declared.Searched.{Searched}
 use Rattle.search.specs.Search.{leafHit, placesOf, Turn, on, searched, nodeDist, pushed, turnOf, runOf, searchOf}
-use Rattle.search.specs.Walk.{Walk, walkFrom, place, near, more, skip, evaluate, visit}
+use Rattle.search.specs.Walk.{Walk, walkFrom, place, near, more, skip, visit}
 
 -- what a walk answers
 abbrev pub answer : Walk → Searched
@@ -168,8 +165,3 @@ module _ (nw : List ℕ) (nf : List Float) (o : List ℕ) (w : List ℕ) (f : Li
           let ne : countObjects w ≡ 0 → ⊥ = λ z. omega (arith, weight-above nw nf 0 0 t (h .holds .stands), h .holds .all) in
           let q = seen t 0 0 511 [] (walkFrom bound) root-fits in
           rw (ne-eqb (countObjects w) 0 ne) (q .goes ∙ run-none (q .left) (visit o w f p t 0 (walkFrom bound)))
-
--- with no objects the bound comes back, and nothing is popped
-pub search-empty : (nw : List ℕ) (nf : List Float) (o w : List ℕ) (f : List Float) (p : Vec3) (bound : DistHit) → countObjects w ≡ 0 → searchOf nw nf o w f p bound ≡ searched bound 0 0 true
-unfolding searchOf
-search-empty nw nf o w f p bound e = rw e
