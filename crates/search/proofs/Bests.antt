@@ -71,7 +71,7 @@ module _ (o : List ℕ) (w : List ℕ) (f : List Float) (p : Vec3) (bound : Floa
       rw (← (append-assoc seen (s ∷ []) (listFrom place (suc s) k)))
       (good-leaf k (suc s) (nearer (pieceIn w f o s) p best) (seen ++ (s ∷ [])) passed (rw (nearer-d (pieceIn w f o s) p best) (good-one s (best .d) seen passed g)))
 
-  abbrev Kept : Walk → Type 0
+  abbrev pub Kept : Walk → Type 0
   Kept σ = Good (σ .best .d) (σ .seen) (σ .passed)
 
   good-visit : (t : Tree) (s : ℕ) (σ : Walk) → Kept σ → Kept (visit o w f p t s σ)
@@ -81,9 +81,9 @@ module _ (o : List ℕ) (w : List ℕ) (f : List Float) (p : Vec3) (bound : Floa
       (λ s k σ g. good-leaf k s (σ .best) (σ .seen) (σ .passed) g)
       (λ σ g. g)
 
-pub good-walk : (o : List ℕ) (w : List ℕ) (f : List Float) (p : Vec3) (t : Tree) (bound : DistHit) (σ : Walk) → T (eq (bound .d) (bound .d)) → σ ≡ visit o w f p t 0 (walkFrom bound) → Good o w f p (bound .d) (σ .best .d) (σ .seen) (σ .passed)
-good-walk o w f p t bound σ n e =
-    rw e (good-visit o w f p (bound .d) t 0 (walkFrom bound) (record {
+pub good-walk : (o : List ℕ) (w : List ℕ) (f : List Float) (p : Vec3) (t : Tree) (bound : DistHit) → T (eq (bound .d) (bound .d)) → Kept o w f p (bound .d) (visit o w f p t 0 (walkFrom bound))
+good-walk o w f p t bound n =
+    good-visit o w f p (bound .d) t 0 (walkFrom bound) (record {
       least = record { one = inl refl; bounded = le-refl (bound .d) (rw number-eq at n); below = λ i h. absurd h };
       far = λ q h. absurd h;
-    }))
+    })

@@ -1,6 +1,4 @@
--- Of every search of an accepted tree, from any bound that is a number: it has room enough, its counts are those of the walk of the tree, its answer is the
--- least by value of the bound and of the distances worked out that are numbers, and every place that it left out lies under a box worked out to be no nearer
--- than that answer. The search is the walk of the tree, and each step of the walk keeps it so. Assumes nothing.
+-- Every search of an accepted tree, from a bound that is a number, meets the demand: it is the walk of the tree, and each step keeps it. Assumes nothing.
 use Prim.Native.Nat.{ℕ, _≤_}
 use mathlib.Core.Path.{_≡_, refl}
 use mathlib.Core.Logic.{inl, inr}
@@ -28,7 +26,7 @@ use Rattle.search.proofs.Bests.{good-walk}
 answered : (o w : List ℕ) (f : List Float) (p : Vec3) (t : Tree) (bound : DistHit) → T (eq (bound .d) (bound .d)) → Demand o w f p t bound (answer (visit o w f p t 0 (walkFrom bound)))
 answered o w f p t bound n =
     let σ = visit o w f p t 0 (walkFrom bound) in
-    let g = good-walk o w f p t bound σ n refl in
+    let g = good-walk o w f p t bound n in
     record {
       walk = σ;
       walked = refl;

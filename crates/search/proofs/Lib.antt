@@ -1,5 +1,5 @@
-pub mod Visit
 pub mod Steps
+pub mod Visit
 pub mod Covers
 pub mod Bests
 pub mod Demand

@@ -1,5 +1,5 @@
--- How a law of the walk is shown: by the ways that the tests of one node can come out. And the first such law: each node is popped, and each place seen, at
--- most once. By induction on the tree. Assumes nothing.
+-- How a law of the walk is shown: by the ways that the tests of one node can come out, and induction on the tree. And the first such law: each node is
+-- popped, and each place seen, at most once. Assumes nothing.
 use Prim.Native.Nat.{ℕ, _+_, _≤_}
 use mathlib.Core.Path.{_≡_, refl}
 use mathlib.Core.Bool.{Bool, true, false, cond}
@@ -16,6 +16,9 @@ use Rattle.words.proofs.Runs.{length-from}
 use Rattle.order.proofs.Order.{yes-of}
 use Rattle.tree.specs.Rules.{Tree, leaf, node, size, weight}
 use Rattle.search.specs.Walk.{Walk, place, near, more, skip, evaluate, visit}
+
+pub length-seen : (seen : List ℕ) (s c : ℕ) → length (seen ++ listFrom place s c) ≡ length seen + c
+length-seen seen s c = rw (length-append, length-from place s c)
 
 module _ (o : List ℕ) (w : List ℕ) (f : List Float) (p : Vec3) where
   abbrev walk : Tree → ℕ → Walk → Walk
@@ -48,18 +51,17 @@ module _ (o : List ℕ) (w : List ℕ) (f : List Float) (p : Vec3) where
     pub keeps : (t : Tree) (s : ℕ) (σ : Walk) → P σ → P (walk t s σ)
     keeps (leaf b c) s σ h = at-leaf P s σ b c (λ e. skips (leaf b c) s σ e h) (evaluates s c σ h)
     keeps (node b l r) s σ h =
+        let σ-l = walk l s (more o w f p σ) in
+        let σ-r = walk r (s + weight l) (more o w f p σ) in
         at-node P s σ b l r
         (λ e. skips (node b l r) s σ e h)
-        (keeps r (s + weight l) (walk l s (more o w f p σ)) (keeps l s (more o w f p σ) (opens σ h)))
-        (keeps l s (walk r (s + weight l) (more o w f p σ)) (keeps r (s + weight l) (more o w f p σ) (opens σ h)))
+        (keeps r (s + weight l) σ-l (keeps l s (more o w f p σ) (opens σ h)))
+        (keeps l s σ-r (keeps r (s + weight l) (more o w f p σ) (opens σ h)))
 
   -- ---- each node is popped, and each place seen, at most once
   pub record Counts (t : Tree) (σ σ′ : Walk) : Type 0 where
     pub pops : σ′ .popped ≤ σ .popped + size t
     pub evals : length (σ′ .seen) ≤ length (σ .seen) + weight t
-
-  length-seen : (seen : List ℕ) (s c : ℕ) → length (seen ++ listFrom place s c) ≡ length seen + c
-  length-seen seen s c = rw (length-append, length-from place s c)
 
   counts-then : (b : Aabb) (l r x y : Tree) (σ τ υ : Walk) → size x + size y ≡ size l + size r → weight x + weight y ≡ weight l + weight r → Counts x (more o w f p σ) τ → Counts y τ υ → Counts (node b l r) σ υ
   counts-then b l r x y σ τ υ e g h k = record { pops = omega (arith, h .pops, k .pops); evals = omega (arith, h .evals, k .evals) }
@@ -70,9 +72,9 @@ module _ (o : List ℕ) (w : List ℕ) (f : List Float) (p : Vec3) where
       (λ _. record { pops = omega arith; evals = omega arith })
       (record { pops = omega arith; evals = omega (arith, length-seen (σ .seen) s c) })
   counts (node b l r) s σ =
+      let σ-l = walk l s (more o w f p σ) in
+      let σ-r = walk r (s + weight l) (more o w f p σ) in
       at-node (Counts (node b l r) σ) s σ b l r
       (λ _. record { pops = omega arith; evals = omega arith })
-      (counts-then b l r l r σ (walk l s (more o w f p σ)) (walk r (s + weight l) (walk l s (more o w f p σ))) refl refl
-      (counts l s (more o w f p σ)) (counts r (s + weight l) (walk l s (more o w f p σ))))
-      (counts-then b l r r l σ (walk r (s + weight l) (more o w f p σ)) (walk l s (walk r (s + weight l) (more o w f p σ))) (omega arith) (omega arith)
-      (counts r (s + weight l) (more o w f p σ)) (counts l s (walk r (s + weight l) (more o w f p σ))))
+      (counts-then b l r l r σ σ-l (walk r (s + weight l) σ-l) refl refl (counts l s (more o w f p σ)) (counts r (s + weight l) σ-l))
+      (counts-then b l r r l σ σ-r (walk l s σ-r) (omega arith) (omega arith) (counts r (s + weight l) (more o w f p σ)) (counts l s σ-r))

@@ -6,13 +6,12 @@ use mathlib.Core.Bool.{Bool, true, false, cond}
 use mathlib.Core.List.{List, [], _∷_}
 use native.Mathlib.Nat.{add-zero}
 use native.Mathlib.Omega.{arith}
-use lib.ListN.{length, length-append}
+use lib.ListN.{length}
 use lib.Ieee.{Float, lt, le}
 use borrow.Author.Tests.{lt-ltb, le-ltb, ne-eqb}
 use Rattle.vec.specs.declared.Vec3.{Vec3}
 use Rattle.sdf.specs.declared.Aabb.{Aabb}
 use Rattle.sdf.specs.Boxes.{boxDist}
-use Rattle.words.proofs.Runs.{length-from}
 use Rattle.scene.specs.declared.DistHit.{DistHit}
 use Rattle.scene.specs.Model.{countObjects}
 use Rattle.tree.specs.Nodes.{nodeAt, leafNode, innerNode}
@@ -20,7 +19,8 @@ use Rattle.tree.specs.Rules.{Tree, leaf, node, size, weight, depth, Stands, Acc
 use Rattle.tree.proofs.Trees.{weight-above, stands-fit, stands-below}
 use Rattle.search.specs.declared.Searched.{Searched}
 use Rattle.search.specs.Search.{leafHit, placesOf, Turn, on, searched, nodeDist, pushed, turnOf, runOf, searchOf}
-use Rattle.search.specs.Walk.{Walk, walkFrom, place, near, more, skip, visit}
+use Rattle.search.specs.Walk.{Walk, walkFrom, near, more, skip, visit}
+use Rattle.search.proofs.Steps.{length-seen}
 
 -- what a walk answers
 abbrev pub answer : Walk → Searched
@@ -82,15 +82,15 @@ module _ (nw : List ℕ) (nf : List Float) (o : List ℕ) (w : List ℕ) (f : Li
     pops : size t ≤ fuel
     room : length rest + depth t ≤ 63
 
-  module _ (lw : length nw ≡ 4599) where
-    -- popped with at least one pop left
-    seen-skip : (t : Tree) (at s fuel : ℕ) (rest : List ℕ) (σ : Walk) → 0 < size t → Stands nw nf at s t → le (σ .best .d) (near o w f p t) ≡ true → Seen t (suc fuel) (at ∷ rest) rest σ (skip o w f p t s σ)
-    seen-skip t at s fuel rest σ some h e = record {
-      left = fuel;
-      enough = omega arith;
-      goes = pop fuel at rest σ rest (σ .best) 0 (turn-skip at rest σ (near o w f p t) (stands-near at s t h) e) ∙ rw add-zero;
-    }
+  -- passed over
+  seen-skip : (t : Tree) (at s fuel : ℕ) (rest : List ℕ) (σ : Walk) → 0 < size t → Stands nw nf at s t → le (σ .best .d) (near o w f p t) ≡ true → Seen t (suc fuel) (at ∷ rest) rest σ (skip o w f p t s σ)
+  seen-skip t at s fuel rest σ some h e = record {
+    left = fuel;
+    enough = omega arith;
+    goes = pop fuel at rest σ rest (σ .best) 0 (turn-skip at rest σ (near o w f p t) (stands-near at s t h) e) ∙ rw add-zero;
+  }
 
+  module _ (lw : length nw ≡ 4599) where
     seen-leaf : (b : Aabb) (c at s fuel : ℕ) (rest : List ℕ) (σ : Walk) → Fits (leaf b c) at s (suc fuel) rest → (x : Bool) → le (σ .best .d) (boxDist p b) ≡ x → Seen (leaf b c) (suc fuel) (at ∷ rest) rest σ (walk (leaf b c) s σ)
     unfolding visit
     seen-leaf b c at s fuel rest σ h true e = rw e (seen-skip (leaf b c) at s fuel rest σ (omega arith) (h .stands) e)
@@ -100,7 +100,7 @@ module _ (nw : List ℕ) (nf : List Float) (o : List ℕ) (w : List ℕ) (f : Li
       goes =
           pop fuel at rest σ rest (leafHit w f o p s c (σ .best)) c
           (turn-leaf at rest σ b s c (h .stands .0) (stands-below nw nf lw at s (leaf b c) (h .stands)) (h .stands .1) (h .places) e) ∙
-          rw (length-append, length-from place s c);
+          rw (length-seen (σ .seen) s c);
     })
 
     module _ (b : Aabb) (l r : Tree) (at s fuel : ℕ) (rest : List ℕ) (σ : Walk) (h : Fits (node b l r) at s (suc fuel) rest) where
