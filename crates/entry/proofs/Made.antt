@@ -51,5 +51,5 @@ made-sound empty = (length-replicate {A = ℕ} 22288 0, solids-exact none (seen 
 made-sound (piece planes aw bytes {w} m l e) =
     let s = made-sound m in
     (length-piece planes w aw (newPlace planes (solidsOf w (seen w)) (getD aw 2 0)) ∙ s .0, piece-entered planes w aw bytes (s .0) l e .sound)
-made-sound (material aw number {w} m e) = let s = made-sound m in (length-material w aw ∙ s .0, material-entered number w aw (s .0) (s .1) e .sound)
-made-sound (light aw number {w} m e) = let s = made-sound m in (length-light w aw ∙ s .0, light-entered number w aw (s .0) (s .1) e .sound)
+made-sound (material aw number {w} m g e) = let s = made-sound m in (length-material w aw ∙ s .0, material-entered number w aw (s .0) (s .1) e .sound)
+made-sound (light aw number {w} m g e) = let s = made-sound m in (length-light w aw ∙ s .0, light-entered number w aw (s .0) (s .1) e .sound)

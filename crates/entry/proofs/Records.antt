@@ -102,7 +102,7 @@ module _ (w v : List ℕ) (agree : (i : ℕ) → Solid i → getD v i 0 ≡ getD
         }
 
 -- ---- records of floats that are the same
-same-float : (v w : List ℕ) (m n i j : ℕ) → i < m → j < n → getD v i 0 ≡ getD w j 0 → floatOf (floatsOf v m) i ≡ floatOf (floatsOf w n) j
+pub same-float : (v w : List ℕ) (m n i j : ℕ) → i < m → j < n → getD v i 0 ≡ getD w j 0 → floatOf (floatsOf v m) i ≡ floatOf (floatsOf w n) j
 same-float v w m n i j h k e = float-of v m i h ∙ ap (ofBits binary32) e ∙ sym (float-of w n j k)
 
 module _ (f g : List Float) (i j : ℕ) where
@@ -113,7 +113,7 @@ module _ (f g : List Float) (i j : ℕ) where
   unfolding materialOf
   material-same h = rw (first (h 0 (omega arith)), h 1 (omega arith), h 2 (omega arith), h 3 (omega arith), h 4 (omega arith))
 
-  light-same : ((k : ℕ) → k < 15 → floatOf f (i + k) ≡ floatOf g (j + k)) → lightOf f i ≡ lightOf g j
+  pub light-same : ((k : ℕ) → k < 15 → floatOf f (i + k) ≡ floatOf g (j + k)) → lightOf f i ≡ lightOf g j
   unfolding lightOf
   light-same h =
       let a : (x k : ℕ) → i + x + k ≡ i + (x + k) = λ x k. omega arith in

@@ -13,7 +13,7 @@ use Rattle.scene.specs.Model.{Piece, wordOf, floatOf, primOf, piecesFrom, count
 use Rattle.sound.specs.Sound.{solidsOf}
 use Rattle.args.specs.declared.Material.{Material}
 use Rattle.args.specs.declared.QuadLight.{QuadLight}
-use Rattle.args.specs.Records.{materialOf, lightOf}
+use Rattle.args.specs.Records.{materialOf, materialNumber, lightOf, lightNumber}
 use Rattle.entry.specs.Entry.{countOf, rowOf, pieceNumber, newPlace, withPiece, recordNumber, withMaterial, withLight}
 
 -- a plan's words seen as floats
@@ -85,5 +85,7 @@ pub data Made : List ℕ → Type 0 where
   empty : Made (replicate 22288 0)
   piece : (planes : Bool) (aw : List ℕ) (bytes : ℕ) {w : List ℕ} → Made w → length aw ≡ 144 → pieceNumber 0 planes w (solidsOf w (seen w)) aw (floatsOf aw 144) bytes ≡ 0
       → Made (withPiece planes w aw (newPlace planes (solidsOf w (seen w)) (getD aw 2 0)))
-  material : (aw : List ℕ) (number : ℕ) {w : List ℕ} → Made w → recordNumber number w (countMaterials w) 64 ≡ 0 → Made (withMaterial w aw)
-  light : (aw : List ℕ) (number : ℕ) {w : List ℕ} → Made w → recordNumber number w (countLights w) 16 ≡ 0 → Made (withLight w aw)
+  material : (aw : List ℕ) (number : ℕ) {w : List ℕ} → Made w → materialNumber (materialOf (floatsOf aw 16) 0) ≡ 0 → recordNumber number w (countMaterials w) 64 ≡ 0
+      → Made (withMaterial w aw)
+  light : (aw : List ℕ) (number : ℕ) {w : List ℕ} → Made w → lightNumber (lightOf (floatsOf aw 16) 0) ≡ 0 → recordNumber number w (countLights w) 16 ≡ 0
+      → Made (withLight w aw)

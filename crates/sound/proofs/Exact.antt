@@ -171,7 +171,7 @@ counts-to w e =
       objects = leb-true (countObjects w) 256 (s .1);
     }
 
-counts-from : (w : List ℕ) → CountsOk w → countsOk w ≡ true
+pub counts-from : (w : List ℕ) → CountsOk w → countsOk w ≡ true
 unfolding countsOk
 counts-from w c =
     let materials = le-leb (countMaterials w) 64 (c .materials) in

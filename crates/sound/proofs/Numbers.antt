@@ -3,15 +3,15 @@ use Prim.Native.Nat.{ℕ, zero, suc, _+_, _<_}
 use mathlib.Core.Path.{_≡_, refl, sym, _∙_, subst}
 use mathlib.Core.Logic.{_↔_, _⊎_, inl, inr}
 use mathlib.Core.Bool.{Bool, true, false, cond, not, _&&_, Bool·beq, and-eq-true-iff, true≢false, false≢true}
-use mathlib.Core.List.{List, [], _∷_, _++_}
+use mathlib.Core.List.{List}
 use native.Mathlib.Nat.{le-of-suc-le-suc, eq-or-lt-of-le}
+use native.Mathlib.Numerals.{add-one}
 use native.Mathlib.Omega.{arith}
 use lib.Dec.{T, leb, ltb, eqb, eqb·suc-zero}
 use lib.Ieee.{Float}
 use borrow.Author.Tests.{leb-true, ltb-true, not-true, le-leb, lt-ltb}
 use Rattle.sdf.specs.declared.Shape.{Shape}
 use Rattle.words.specs.Lists.{listFrom}
-use Rattle.words.proofs.Runs.{from-snoc}
 use Rattle.rules.specs.Refusals.{unless, lower}
 use Rattle.rules.specs.Ranges.{size}
 use Rattle.rules.specs.Prims.{shapeOk, flat, primNumber}
@@ -19,6 +19,7 @@ use Rattle.scene.specs.declared.Head.{Head}
 use Rattle.scene.specs.Model.{headAt, cutterKind, cutterAt}
 use Rattle.sound.specs.Sound.{ownNumber, cutterNumber, lowest, cuttersNumber, pieceCutters, piecesCutters}
 use Rattle.sound.specs.Exact.{PrimOk, PieceOk}
+use Rattle.sound.proofs.Lists as runs
 
 -- ---- a test
 pub told : (b : Bool) → T b ↔ (b ≡ true)
@@ -122,17 +123,11 @@ module _ (P : ℕ → Type 0) where
       (λ t. each-more n (ih .0 (more n .0 t .0)) (more n .0 t .1), λ a. more n .1 (ih .1 (each-less n a), each-last n a))
 
 -- ---- the lowest of a run
-lowest-snoc : (n : ℕ) (xs : List ℕ) (x : ℕ) → lowest n (xs ++ (x ∷ [])) ≡ lower (lowest n xs) x
-unfolding lowest
-lowest-snoc n [] x = refl
-lowest-snoc n (y ∷ ys) x = lowest-snoc (lower n y) ys x
-
 lowest-more : (g : ℕ → ℕ) (a n : ℕ) → lowest 0 (listFrom g a (suc n)) ≡ lower (lowest 0 (listFrom g a n)) (g (a + n))
-lowest-more g a n = rw (from-snoc g a n) (lowest-snoc 0 (listFrom g a n) (g (a + n)))
+lowest-more g a n = rw (← (add-one n)) (runs.lowest-more g 0 a n)
 
 lowest-none : (g : ℕ → ℕ) (a : ℕ) → lowest 0 (listFrom g a 0) ≡ 0
-unfolding lowest listFrom
-lowest-none g a = refl
+lowest-none g a = sym (runs.lowest-none g 0 a)
 
 -- where g gets 0 exactly when P holds, the lowest of a run is 0 exactly when P holds all along it
 pub lowest-exact

@@ -1,0 +1,18 @@
+-- `lights::light_at` meets its contract. Assumes nothing.
+use Rattle.lights.specs.Lights.{lightsAt}
+use borrow.Author.Needs.{needs}
+use Rattle.lights.proofs.light_at.Statement.{statement}
+use Rattle.lights.proofs.light_at.Tie as tie
+
+plan-light-requires : tie.Need-plan-light-requires
+plan-light-requires c κs = search needs
+
+light-number-requires : tie.Need-light-number-requires
+light-number-requires c κs = search needs
+
+returns : tie.Need-returns
+unfolding lightsAt
+returns c = cc
+
+pub light-at-spec : {M : Type 1} → statement M
+light-at-spec = tie.close (tie.spec plan-light-requires light-number-requires returns)
