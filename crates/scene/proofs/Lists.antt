@@ -22,7 +22,7 @@ unfolding carve
 carve-snoc [] c p d = refl
 carve-snoc (x ∷ cs) c p d = carve-snoc cs c p (cutBy x p d)
 
-nearest-snoc : (os : List Piece) (o : Piece) (p : Vec3) (best : DistHit) → nearest (os ++ (o ∷ [])) p best ≡ nearer o p (nearest os p best)
+pub nearest-snoc : (os : List Piece) (o : Piece) (p : Vec3) (best : DistHit) → nearest (os ++ (o ∷ [])) p best ≡ nearer o p (nearest os p best)
 unfolding nearest
 nearest-snoc [] o p best = refl
 nearest-snoc (x ∷ os) o p best = nearest-snoc os o p (nearer x p best)

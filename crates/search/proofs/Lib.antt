@@ -1,3 +1,6 @@
+pub mod Leaves
+pub mod Stack
+pub mod Machine
 pub mod Steps
 pub mod Visit
 pub mod Covers
