@@ -1,43 +1,38 @@
+-- `search::opened` meets its contract: a return for each case. Assumes nothing.
+use borrow.Author.Tests.{lt-ltb, le-ltb, eq-eqb, ne-eqb}
+use Rattle.search.specs.Machine.{openedOf}
 use borrow.Author.Needs.{needs}
 use Rattle.search.proofs.opened.Statement.{statement}
 use Rattle.search.proofs.opened.Tie as tie
-use Rattle.search.proofs.opened.Reads as reads
-use Rattle.search.proofs.opened.Lts as lts
-use Rattle.search.proofs.children.Reads as children-reads
-use Rattle.search.proofs.next.Reads as next-reads
-use Rattle.search.proofs.scanned.Reads as scanned-reads
 
--- src/lib.rt:271:56
 add-children : tie.Need-add-children
 add-children c = search needs
 
--- src/lib.rt:271:66
 cast-children : tie.Need-cast-children
 cast-children c = search needs
 
--- src/lib.rt:271:13
 children-requires : tie.Need-children-requires
 children-requires c κs = search needs
 
--- src/lib.rt:271:13
 returns : tie.Need-returns
-returns c = ?
+unfolding openedOf
+returns c = let test = c .before .before .before .before .before in
+    rw (lt-ltb _ 511 (test .before .before .if1 .taken), eq-eqb _ 0 (test .if2 .taken)) (cc)
 
--- src/lib.rt:273:9
 scanned-requires : tie.Need-scanned-requires
 scanned-requires c κs = search needs
 
--- src/lib.rt:273:9
 returns-2 : tie.Need-returns-2
-returns-2 c = ?
+unfolding openedOf
+returns-2 c = let test = c .before .before .before in
+    rw (lt-ltb _ 511 (test .before .before .if1 .taken), ne-eqb _ 0 (test .if2 .left)) (cc)
 
--- src/lib.rt:275:5
 next-requires : tie.Need-next-requires
 next-requires c κs = search needs
 
--- src/lib.rt:255:1
 returns-3 : tie.Need-returns-3
-returns-3 c = ?
+unfolding openedOf
+returns-3 c = rw (le-ltb _ 511 (c .before .before .before .if1 .left)) (cc)
 
 pub opened-spec : {M : Type 1} → statement M
 opened-spec =

@@ -1,9 +1,5 @@
 use Rattle.search.proofs.run.Statement.{statement}
 use Rattle.search.proofs.run.Tie as tie
-use Rattle.search.proofs.run.Reads as reads
-use Rattle.search.proofs.run.Lts as lts
-use Rattle.search.proofs.square_at.Reads as square-at-reads
-use Rattle.search.proofs.step.Reads as step-reads
 
 abbrev Inv-loop : tie.InvT-loop
 Inv-loop nw nf ow ws fs p stack₀ keys₀ s₀ stack keys s = ?
