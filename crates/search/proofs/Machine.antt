@@ -92,19 +92,21 @@ module _ (nw : List ℕ) (nf : List Float) (o : List ℕ) (w : List ℕ) (f : Li
       pub key : s .key ≡ squareAt nw nf p (s .at)
       pub run : runOf nw nf o w f p (511 - s .popped) (s .at ∷ waiting stack (s .sp)) (s .hit) (s .popped) (s .evaluated) ≡ all
 
-    -- after a pop: a node in hand again, or the end
-    pub record After (t : Tables) : Type 0 where
+    -- after a pop, with k popped: a node in hand again, or the end
+    pub record After (k : ℕ) (t : Tables) : Type 0 where
+      pub pops : t .state .popped ≡ k
       pub on : t .state .done ≤ 0 → Busy (t .stack) (t .keys) (t .state)
       pub off : 0 < t .state .done → searched (t .state .hit) (t .state .popped) (t .state .evaluated) (eqb (t .state .done) 1) ≡ all
 
-    next-law : (stack : List ℕ) (keys : List Float) (s : State) → Idle stack keys s → After (tables stack keys (nextOf stack keys s))
+    next-law : (stack : List ℕ) (keys : List Float) (s : State) → Idle stack keys s → After (s .popped) (tables stack keys (nextOf stack keys s))
     unfolding nextOf
     next-law stack keys s i =
         let W = i .waits in
-        either (λ (x : State). After (tables stack keys x)) (eqb (s .sp) 0) (ended s 1) _
+        either (λ (x : State). After (s .popped) (tables stack keys x)) (eqb (s .sp) 0) (ended s 1) _
         (λ e.
           let z : s .sp ≡ 0 = eqb-true (s .sp) 0 e in
           record {
+            pops = refl;
             on = λ h. absurd (omega arith);
             off = λ h. sym (run-none (511 - s .popped) (s .hit) (s .popped) (s .evaluated)) ∙
             ap (λ (k : ℕ). runOf nw nf o w f p (511 - s .popped) (waiting stack k) (s .hit) (s .popped) (s .evaluated)) (sym z) ∙ i .run;
@@ -112,6 +114,7 @@ module _ (nw : List ℕ) (nf : List Float) (o : List ℕ) (w : List ℕ) (f : Li
         (λ e.
           let h : 0 < s .sp = omega (arith, eqb-false (s .sp) 0 e) in
           record {
+            pops = refl;
             on = λ _. record {
               waits = record {
                 long = W .long;
@@ -180,25 +183,31 @@ module _ (nw : List ℕ) (nf : List Float) (o : List ℕ) (w : List ℕ) (f : Li
       unfolding farOff
       near b e = rw (dist-is (s .at), ← (i .key)) e
 
-      skipped : farOff (s .key) (s .hit .d) ≡ true → After (tables stack keys (nextOf stack keys (popping s)))
+      abbrev Popped : Tables → Type 0
+      Popped = After (s .popped + 1)
+
+      nexted : (x : State) → x .popped ≡ s .popped + 1 → Idle stack keys x → Popped (tables stack keys (nextOf stack keys x))
+      nexted x e j = subst (λ (k : ℕ). After k (tables stack keys (nextOf stack keys x))) e (next-law stack keys x j)
+
+      skipped : farOff (s .key) (s .hit .d) ≡ true → Popped (tables stack keys (nextOf stack keys (popping s)))
       unfolding turnOf
       skipped e =
-          next-law stack keys (popping s)
+          nexted (popping s) pops
           (idle (popping s) 0 (omega arith) refl pops (sym (add-zero (s .evaluated))) refl (rw (near true e)))
 
       module _ (e : farOff (s .key) (s .hit .d) ≡ false) where
-        past : ltb (s .at) 511 ≡ false → After (tables stack keys (nextOf stack keys (popping s)))
+        past : ltb (s .at) 511 ≡ false → Popped (tables stack keys (nextOf stack keys (popping s)))
         unfolding turnOf
         past g =
-            next-law stack keys (popping s)
+            nexted (popping s) pops
             (idle (popping s) 0 (omega arith) refl pops (sym (add-zero (s .evaluated))) refl (rw (near false e, g)))
 
         module _ (g : ltb (s .at) 511 ≡ true) where
-          leafed : eqb (v .count) 0 ≡ false → After (tables stack keys (scannedOf o w f p stack keys (popping s) v))
+          leafed : eqb (v .count) 0 ≡ false → Popped (tables stack keys (scannedOf o w f p stack keys (popping s) v))
           unfolding turnOf scannedOf
           leafed z =
               let x : State = scanned (popping s) (leafHit w f o p (v .start) (placesOf v) (s .hit)) (placesOf v) in
-              next-law stack keys x
+              nexted x pops
               (idle x (placesOf v) (places-few v) refl pops (evals (placesOf v) (places-few v)) refl (rw (near false e, g, z)))
 
           module _ (z : eqb (v .count) 0 ≡ true) where
@@ -208,21 +217,37 @@ module _ (nw : List ℕ) (nf : List Float) (o : List ℕ) (w : List ℕ) (f : Li
             abbrev r : ℕ
             r = v .right
 
-            filled : ltb 62 (s .sp) ≡ true → After (tables stack keys (ended (popping s) 2))
+            filled : ltb 62 (s .sp) ≡ true → Popped (tables stack keys (ended (popping s) 2))
             unfolding turnOf
             filled m =
                 let t : turn ≡ full = rw (near false e, g, z, length-waiting stack (s .sp), m) in
                 record {
+                  pops = pops;
                   on = λ h. absurd (omega arith);
                   off = λ h. rw pops (sym (run-full (511 - (s .popped + 1)) (s .at) rest (s .hit) (s .popped) (s .evaluated) t) ∙ fuelled);
                 }
 
+            kept : (a k : ℕ) → k < s .sp + 1 → getD (set keys (s .sp) (squareAt nw nf p a)) k nan ≡ squareAt nw nf p (getD (set stack (s .sp) a) k 0)
+            kept a k h = go (eqb k (s .sp)) refl
+              where
+                go : (b : Bool) → eqb k (s .sp) ≡ b → getD (set keys (s .sp) (squareAt nw nf p a)) k nan ≡ squareAt nw nf p (getD (set stack (s .sp) a) k 0)
+                go true q =
+                    rw (
+                      eqb-true k (s .sp) q,
+                      getD-set-same keys (s .sp) (squareAt nw nf p a) nan (omega (arith, i .waits .wide, i .waits .room)),
+                      getD-set-same stack (s .sp) a 0 (omega (arith, i .waits .long, i .waits .room)),
+                    )
+                go false q =
+                    let ne : k ≡ s .sp → ⊥ = eqb-false k (s .sp) q in
+                    rw (getD-set-other keys (s .sp) k (squareAt nw nf p a) nan ne, getD-set-other stack (s .sp) k a 0 ne) (i .waits .held k (omega arith))
+
             -- a waits, b in hand
             two : (a b : ℕ) → s .sp ≤ 62 → turn ≡ on (b ∷ a ∷ rest) (s .hit) 0 →
-              After (twoOf stack keys (popping s) a (squareAt nw nf p a) b (squareAt nw nf p b))
+              Popped (twoOf stack keys (popping s) a (squareAt nw nf p a) b (squareAt nw nf p b))
             two a b m t =
                 let W = i .waits in
                 record {
+                  pops = pops;
                   on = λ _. record {
                     waits = record {
                       long = simp length-set (W .long);
@@ -231,7 +256,7 @@ module _ (nw : List ℕ) (nf : List Float) (o : List ℕ) (w : List ℕ) (f : Li
                       few = rw pops (omega arith);
                       small = rw pops (omega (arith, W .small));
                       going = W .going;
-                      held = ?;
+                      held = kept a;
                     };
                     key = refl;
                     run = rw (pops, waiting-push stack a (s .sp) (omega (arith, W .long)), ← (add-zero (s .evaluated))) (turned (b ∷ a ∷ rest) (s .hit) 0 t);
@@ -243,23 +268,26 @@ module _ (nw : List ℕ) (nf : List Float) (o : List ℕ) (w : List ℕ) (f : Li
             unfolding leftFirst
             order b q = rw (dist-is l, dist-is r) q
 
-            both : After (childrenOf nw nf p stack keys (popping s) l r)
+            both : Popped (childrenOf nw nf p stack keys (popping s) l r)
             unfolding childrenOf turnOf pushed
             both =
-                either After (ltb 62 (s .sp)) _ _ filled
+                either Popped (ltb 62 (s .sp)) _ _ filled
                 (λ m.
                   let k : s .sp ≤ 62 = ltb-false 62 (s .sp) m in
-                  either After (leftFirst (squareAt nw nf p l) (squareAt nw nf p r)) _ _
+                  either Popped (leftFirst (squareAt nw nf p l) (squareAt nw nf p r)) _ _
                   (λ q. two r l k (rw (near false e, g, z, length-waiting stack (s .sp), m, order true q)))
                   (λ q. two l r k (rw (near false e, g, z, length-waiting stack (s .sp), m, order false q))))
 
-      opened-law : farOff (s .key) (s .hit .d) ≡ false → After (openedOf nw nf o w f p stack keys (popping s) v)
+      opened-law : farOff (s .key) (s .hit .d) ≡ false → Popped (openedOf nw nf o w f p stack keys (popping s) v)
       unfolding openedOf
       opened-law e =
-          either After (ltb (s .at) 511) _ _
-          (λ g. either After (eqb (v .count) 0) _ _ (both e g) (leafed e g))
+          either Popped (ltb (s .at) 511) _ _
+          (λ g. either Popped (eqb (v .count) 0) _ _ (both e g) (leafed e g))
           (past e)
 
-      pub step-law : After (steppedOf nw nf o w f p stack keys s)
+      stepped : Popped (steppedOf nw nf o w f p stack keys s)
       unfolding steppedOf
-      step-law = either After (farOff (s .key) (s .hit .d)) _ _ skipped opened-law
+      stepped = either Popped (farOff (s .key) (s .hit .d)) _ _ skipped opened-law
+
+      pub step-law : (t : Tables) → t ≡ steppedOf nw nf o w f p stack keys s → After (s .popped + 1) t
+      step-law t e = subst Popped (sym e) stepped

@@ -321,6 +321,9 @@ fn run(
 ) -> Searched
     ensures { λ r. ⌜ r ≡ runOf (now (nw .entry)) (now (nf .entry)) (now (ow .entry)) (now (ws .entry)) (now (fs .entry)) p 511 (0 ∷ []) bound 0 0 ⌝ }
 {
+    // Only as a slice does a table tell the proof its length.
+    let _stack: &[usize] = stack;
+    let _keys: &[f32] = keys;
     let mut s = State {
         at: 0,
         key: square_at(nw, nf, p, 0),
