@@ -63,12 +63,12 @@ module _ (nw : List ℕ) (nf : List Float) (o : List ℕ) (w : List ℕ) (f : Li
   run-spent a rest b k e = refl
 
   run-on : (fuel a : ℕ) (rest : List ℕ) (b : DistHit) (k e : ℕ) (l : List ℕ) (h : DistHit) (c : ℕ) → turnOf nw nf o w f p a rest b ≡ on l h c →
-    runOf nw nf o w f p (suc fuel) (a ∷ rest) b k e ≡ runOf nw nf o w f p fuel l h (k + 1) (e + c)
+      runOf nw nf o w f p (suc fuel) (a ∷ rest) b k e ≡ runOf nw nf o w f p fuel l h (k + 1) (e + c)
   unfolding runOf
   run-on fuel a rest b k e l h c t = rw t
 
   run-full : (fuel a : ℕ) (rest : List ℕ) (b : DistHit) (k e : ℕ) → turnOf nw nf o w f p a rest b ≡ full →
-    runOf nw nf o w f p (suc fuel) (a ∷ rest) b k e ≡ searched b (k + 1) e false
+      runOf nw nf o w f p (suc fuel) (a ∷ rest) b k e ≡ searched b (k + 1) e false
   unfolding runOf
   run-full fuel a rest b k e t = rw t
 
@@ -104,32 +104,32 @@ module _ (nw : List ℕ) (nf : List Float) (o : List ℕ) (w : List ℕ) (f : Li
         let W = i .waits in
         either (λ (x : State). After (s .popped) (tables stack keys x)) (eqb (s .sp) 0) (ended s 1) _
         (λ e.
-          let z : s .sp ≡ 0 = eqb-true (s .sp) 0 e in
-          record {
-            pops = refl;
-            on = λ h. absurd (omega arith);
-            off = λ h. sym (run-none (511 - s .popped) (s .hit) (s .popped) (s .evaluated)) ∙
-            ap (λ (k : ℕ). runOf nw nf o w f p (511 - s .popped) (waiting stack k) (s .hit) (s .popped) (s .evaluated)) (sym z) ∙ i .run;
-          })
+        let z : s .sp ≡ 0 = eqb-true (s .sp) 0 e in
+        record {
+          pops = refl;
+          on = λ h. absurd (omega arith);
+          off = λ h. sym (run-none (511 - s .popped) (s .hit) (s .popped) (s .evaluated)) ∙
+              ap (λ (k : ℕ). runOf nw nf o w f p (511 - s .popped) (waiting stack k) (s .hit) (s .popped) (s .evaluated)) (sym z) ∙ i .run;
+        })
         (λ e.
-          let h : 0 < s .sp = omega (arith, eqb-false (s .sp) 0 e) in
-          record {
-            pops = refl;
-            on = λ _. record {
-              waits = record {
-                long = W .long;
-                wide = W .wide;
-                room = omega (arith, W .room);
-                few = W .few;
-                small = W .small;
-                going = W .going;
-                held = λ k l. W .held k (omega arith);
-              };
-              key = W .held (s .sp - 1) (omega arith);
-              run = rw (← (waiting-pop stack (s .sp) h)) (i .run);
+        let h : 0 < s .sp = omega (arith, eqb-false (s .sp) 0 e) in
+        record {
+          pops = refl;
+          on = λ _. record {
+            waits = record {
+              long = W .long;
+              wide = W .wide;
+              room = omega (arith, W .room);
+              few = W .few;
+              small = W .small;
+              going = W .going;
+              held = λ k l. W .held k (omega arith);
             };
-            off = λ l. absurd (omega (arith, W .going));
-          })
+            key = W .held (s .sp - 1) (omega arith);
+            run = rw (← (waiting-pop stack (s .sp) h)) (i .run);
+          };
+          off = λ l. absurd (omega (arith, W .going));
+        })
 
     pub ran-out : (stack : List ℕ) (keys : List Float) (s : State) → Busy stack keys s → 511 ≤ s .popped → searched (s .hit) (s .popped) (s .evaluated) false ≡ all
     ran-out stack keys s i h =
@@ -243,7 +243,7 @@ module _ (nw : List ℕ) (nf : List Float) (o : List ℕ) (w : List ℕ) (f : Li
 
             -- a waits, b in hand
             two : (a b : ℕ) → s .sp ≤ 62 → turn ≡ on (b ∷ a ∷ rest) (s .hit) 0 →
-              Popped (twoOf stack keys (popping s) a (squareAt nw nf p a) b (squareAt nw nf p b))
+                Popped (twoOf stack keys (popping s) a (squareAt nw nf p a) b (squareAt nw nf p b))
             two a b m t =
                 let W = i .waits in
                 record {
@@ -273,10 +273,10 @@ module _ (nw : List ℕ) (nf : List Float) (o : List ℕ) (w : List ℕ) (f : Li
             both =
                 either Popped (ltb 62 (s .sp)) _ _ filled
                 (λ m.
-                  let k : s .sp ≤ 62 = ltb-false 62 (s .sp) m in
-                  either Popped (leftFirst (squareAt nw nf p l) (squareAt nw nf p r)) _ _
-                  (λ q. two r l k (rw (near false e, g, z, length-waiting stack (s .sp), m, order true q)))
-                  (λ q. two l r k (rw (near false e, g, z, length-waiting stack (s .sp), m, order false q))))
+                let k : s .sp ≤ 62 = ltb-false 62 (s .sp) m in
+                either Popped (leftFirst (squareAt nw nf p l) (squareAt nw nf p r)) _ _
+                (λ q. two r l k (rw (near false e, g, z, length-waiting stack (s .sp), m, order true q)))
+                (λ q. two l r k (rw (near false e, g, z, length-waiting stack (s .sp), m, order false q))))
 
       opened-law : farOff (s .key) (s .hit .d) ≡ false → Popped (openedOf nw nf o w f p stack keys (popping s) v)
       unfolding openedOf

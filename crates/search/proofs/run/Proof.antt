@@ -20,18 +20,18 @@ square-at-requires c κs = search needs
 
 loop-holds : tie.Need-loop-holds Inv-loop μ-loop
 loop-holds c = record {
-      waits = record {
-        long = c .before .before .before .-stack2 .given .0;
-        wide = c .before .-keys2 .given .0;
-        room = omega arith;
-        few = omega arith;
-        small = omega arith;
-        going = refl;
-        held = λ k h. absurd (omega arith);
-      };
-      key = c .square-at .ensures;
-      run = refl;
-    }
+  waits = record {
+    long = c .before .before .before .-stack2 .given .0;
+    wide = c .before .-keys2 .given .0;
+    room = omega arith;
+    few = omega arith;
+    small = omega arith;
+    going = refl;
+    held = λ k h. absurd (omega arith);
+  };
+  key = c .square-at .ensures;
+  run = refl;
+}
 
 step-requires : tie.Need-step-requires Inv-loop μ-loop
 step-requires c κs = search needs
