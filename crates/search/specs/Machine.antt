@@ -1,7 +1,7 @@
 -- The search as the code holds it: the node in hand with the square of its box distance, and the others in two tables of 64 places, the last on top.
 -- Definitions only; that it comes to `runOf` is shown in proofs/Machine.antt.
 use Prim.Native.Nat.{ℕ, _+_, _-_, _%_, _^_}
-use mathlib.Core.Bool.{Bool, cond}
+use mathlib.Core.Bool.{Bool, false, not, cond}
 use mathlib.Core.List.{List}
 use lib.ListN.{getD, set}
 use lib.Dec.{leb, ltb, eqb}
@@ -11,6 +11,7 @@ use Rattle.num.specs.F32.{f0}
 use Rattle.vec.specs.declared.Vec3.{Vec3}
 use Rattle.vec.specs.Vec.{vsplat, vsub, vmax, vdot}
 use Rattle.sdf.specs.declared.Aabb.{Aabb}
+use Rattle.rules.specs.Ranges.{greatest}
 use Rattle.scene.specs.declared.DistHit.{DistHit}
 use Rattle.tree.specs.declared.Node.{Node}
 use Rattle.tree.specs.Nodes.{nodeAt}
@@ -24,8 +25,16 @@ gapOf p b = vmax (vmax (vsub (b .lo) p) (vsub p (b .hi))) (vsplat f0)
 unfoldable pub boxSquare : Vec3 → Aabb → Float
 boxSquare p b = vdot (gapOf p b) (gapOf p b)
 
+-- above zero and finite
+unfoldable pub usual : Float → Bool
+usual x = cond (lt f0 x) (le x greatest) false
+
 unfoldable pub farOff : Float → Float → Bool
 farOff s d = le d (rootOf s)
+
+-- b lies above the root of l, and not above that of r
+unfoldable pub partsRoots : Float → Float → Float → Bool
+partsRoots l r b = cond (farOff r b) (not (farOff l b)) false
 
 unfoldable pub leftFirst : Float → Float → Bool
 leftFirst l r = lt (rootOf l) (rootOf r)

@@ -6,7 +6,7 @@ ghost use lib.ListN.{length, getD, set};
 ghost use lib.Ieee.{nan};
 ghost use Rattle.scene.specs.Nearest.{nearer};
 ghost use Rattle.search.specs.Search.{pieceIn, leafHit, placesOf, runOf, searchOf};
-ghost use Rattle.search.specs.Machine.{boxSquare, farOff, leftFirst, holding, ended, popping, nextOf, scannedOf, tables, squareAt, childrenOf, openedOf, steppedOf};
+ghost use Rattle.search.specs.Machine.{boxSquare, usual, farOff, partsRoots, leftFirst, holding, ended, popping, nextOf, scannedOf, tables, squareAt, childrenOf, openedOf, steppedOf};
 use scene::DistHit;
 use sdf::Aabb;
 use tree::Node;
@@ -40,17 +40,63 @@ pub fn box_square(p: Vec3, b: Aabb) -> f32
     d.dot(d)
 }
 
-// Whether the root of a square is at least d.
+// Whether x is above zero and finite.
+fn usual(x: f32) -> bool
+    ensures { λ r. ⌜ r ≡ usual x ⌝ }
+{
+    if x > 0.0 {
+        return x <= 3.4028235e38;
+    }
+    false
+}
+
+// Whether the root of a square is at least d: for what is above zero and finite the square is held against d's bar, and no root taken.
 fn far_off(s: f32, d: f32) -> bool
     ensures { λ r. ⌜ r ≡ farOff s d ⌝ }
 {
+    if usual(s) {
+        if usual(d) {
+            return root::at_least(s, root::bar(d));
+        }
+        if d <= 0.0 {
+            return true;
+        }
+    }
     root::root(s) >= d
 }
 
-// Whether the root of l is less than that of r.
+// A guess at a number between the roots of l and r: the root of their mean, by its bits and a step of Newton's method. Nothing rests on it but time.
+fn halfway(l: f32, r: f32) -> f32 {
+    let m = l * 0.5 + r * 0.5;
+    let g = num::float(num::bits(m) / 2 + 0x1fbd_1df5);
+    (g + m / g) * 0.5
+}
+
+// Whether b lies above the root of l, and not above that of r.
+fn parts(l: f32, r: f32, b: f32) -> bool
+    ensures { λ x. ⌜ x ≡ partsRoots l r b ⌝ }
+{
+    if far_off(r, b) {
+        return !far_off(l, b);
+    }
+    false
+}
+
+// Whether the root of l is less than that of r: no root is taken where r is at most l, and none where the guess lies between the two.
 fn left_first(l: f32, r: f32) -> bool
     ensures { λ x. ⌜ x ≡ leftFirst l r ⌝ }
 {
+    if l >= 0.0 {
+        if r >= 0.0 {
+            if r <= l {
+                return false;
+            }
+            if parts(l, r, halfway(l, r)) {
+                return true;
+            }
+            return !far_off(l, root::root(r));
+        }
+    }
     root::root(l) < root::root(r)
 }
 
