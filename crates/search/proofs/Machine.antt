@@ -10,7 +10,7 @@ use lib.Ieee.{Float, nan, lt, le}
 use lib.ListN.{length, getD, set, length-set}
 use lib.Seq.{getD-set-same, getD-set-other}
 use lib.Dec.{ltb, eqb}
-use borrow.Author.Tests.{lt-ltb, le-ltb, ltb-true, ltb-false, eqb-true, eqb-false}
+use borrow.Author.Tests.{ltb-false, eqb-true, eqb-false}
 use Rattle.root.specs.Root.{rootOf}
 use Rattle.vec.specs.declared.Vec3.{Vec3}
 use Rattle.vec.specs.Vec.{vlength}
@@ -20,14 +20,13 @@ use Rattle.tree.specs.declared.Node.{Node}
 use Rattle.tree.specs.Nodes.{nodeAt}
 use Rattle.search.specs.declared.Searched.{Searched}
 use Rattle.search.specs.declared.State.{State}
-use Rattle.search.specs.Search.{Turn, on, full, searched, leafHit, placesOf, nodeDist, pushed, turnOf, onTurn, runOf}
+use Rattle.search.specs.Search.{Turn, on, full, searched, leafHit, placesOf, nodeDist, pushed, turnOf, runOf}
 use Rattle.search.specs.Machine.{
   Tables,
   tables,
   boxSquare,
   farOff,
   leftFirst,
-  holding,
   ended,
   popping,
   scanned,
@@ -73,12 +72,11 @@ module _ (nw : List ℕ) (nf : List Float) (o : List ℕ) (w : List ℕ) (f : Li
   run-full fuel a rest b k e t = rw t
 
   module _ (all : Searched) where
-    -- nothing in hand, and with a node in hand
+    -- the tables and the counts; the run with nothing in hand; the run with a node in hand
     pub record Waits (stack : List ℕ) (keys : List Float) (s : State) : Type 0 where
       pub long : length stack ≡ 64
       pub wide : length keys ≡ 64
       pub room : s .sp ≤ 63
-      pub few : s .popped ≤ 511
       pub small : s .evaluated ≤ 256 * s .popped
       pub going : s .done ≡ 0
       pub held : (k : ℕ) → k < s .sp → getD keys k nan ≡ squareAt nw nf p (getD stack k 0)
@@ -98,6 +96,7 @@ module _ (nw : List ℕ) (nf : List Float) (o : List ℕ) (w : List ℕ) (f : Li
       pub on : t .state .done ≤ 0 → Busy (t .stack) (t .keys) (t .state)
       pub off : 0 < t .state .done → searched (t .state .hit) (t .state .popped) (t .state .evaluated) (eqb (t .state .done) 1) ≡ all
 
+    -- the next waiting node in hand, or the end of a run with none
     next-law : (stack : List ℕ) (keys : List Float) (s : State) → Idle stack keys s → After (s .popped) (tables stack keys (nextOf stack keys s))
     unfolding nextOf
     next-law stack keys s i =
@@ -120,7 +119,6 @@ module _ (nw : List ℕ) (nf : List Float) (o : List ℕ) (w : List ℕ) (f : Li
               long = W .long;
               wide = W .wide;
               room = omega (arith, W .room);
-              few = W .few;
               small = W .small;
               going = W .going;
               held = λ k l. W .held k (omega arith);
@@ -131,6 +129,7 @@ module _ (nw : List ℕ) (nf : List Float) (o : List ℕ) (w : List ℕ) (f : Li
           off = λ l. absurd (omega (arith, W .going));
         })
 
+    -- the budget spent
     pub ran-out : (stack : List ℕ) (keys : List Float) (s : State) → Busy stack keys s → 511 ≤ s .popped → searched (s .hit) (s .popped) (s .evaluated) false ≡ all
     ran-out stack keys s i h =
         let z : 511 - s .popped ≡ 0 = omega arith in
@@ -170,7 +169,6 @@ module _ (nw : List ℕ) (nf : List Float) (o : List ℕ) (w : List ℕ) (f : Li
               long = W .long;
               wide = W .wide;
               room = omega (arith, W .room);
-              few = omega arith;
               small = omega (arith, W .small);
               going = ed ∙ W .going;
               held = λ k l. W .held k (omega arith);
@@ -253,7 +251,6 @@ module _ (nw : List ℕ) (nf : List Float) (o : List ℕ) (w : List ℕ) (f : Li
                       long = simp length-set (W .long);
                       wide = simp length-set (W .wide);
                       room = omega arith;
-                      few = rw pops (omega arith);
                       small = rw pops (omega (arith, W .small));
                       going = W .going;
                       held = kept a;

@@ -1,6 +1,6 @@
 -- Tests of roots with no root taken: of a root against a bound by the bound's bar, and of two roots by what lies between. By the laws of the root and of the
 -- bar. Assumes nothing.
-use mathlib.Core.Path.{_≡_, refl, sym, _∙_, subst}
+use mathlib.Core.Path.{_≡_, refl, sym, subst}
 use mathlib.Core.Bool.{Bool, true, false, not, cond}
 use mathlib.Core.Logic.{_⊎_, inl, inr, ⊎-elim}
 use Prim.Native.Nat.{ℕ, zero, suc, _*_, _<_}
@@ -9,7 +9,6 @@ use native.Mathlib.Omega.{arith}
 use lib.Dec.{T}
 use lib.Ieee.{Float, nan, inf, fin, binary32, ofBits, up, fits, lt, le}
 use lib.Ieee.Fits.{up-pos}
-use lib.Ieee.Scale.{finite}
 use Rattle.root.specs.Root.{plain, rootOf}
 use Rattle.root.specs.Bar.{barOf}
 use Rattle.root.proofs.BarLaw.{bar-law}

@@ -1,7 +1,7 @@
 -- `search::run` meets its contract: each turn of the loop is a pop, after which what is still to run is the whole run. Assumes nothing.
 use borrow.Author.Needs.{needs}
 use Prim.Native.Nat.{_-_}
-use mathlib.Core.Path.{_≡_, refl}
+use mathlib.Core.Path.{refl}
 use mathlib.Core.List.{[], _∷_}
 use native.Mathlib.Omega.{arith}
 use Rattle.search.specs.Search.{runOf}
@@ -24,7 +24,6 @@ loop-holds c = record {
     long = c .before .before .before .-stack2 .given .0;
     wide = c .before .-keys2 .given .0;
     room = omega arith;
-    few = omega arith;
     small = omega arith;
     going = refl;
     held = λ k h. absurd (omega arith);
