@@ -8,7 +8,7 @@ use Rattle.sdf.specs.declared.Shape.{Shape}
 use Rattle.bemitondry.specs.declared.Scalar.{Scalar}
 use Rattle.bemitondry.specs.declared.Boxed.{Boxed}
 use Rattle.bemitondry.specs.declared.Found.{Found}
-use Rattle.bemitondry.specs.Calls.{rootAnswer, acosAnswer, primDistAnswer, primBoundsAnswer, queryAnswer, distMatAnswer}
+use Rattle.bemitondry.specs.Calls.{rootAnswer, acosAnswer, primDistAnswer, primBoundsAnswer, queryAnswer, queryTreeAnswer, distMatAnswer, distMatTreeAnswer}
 
 pub only : {A : Type 0} {is r s : A} → r ≡ is → s ≡ is → r ≡ s
 only p q = p ∙ sym q
@@ -30,3 +30,11 @@ query-only n w f p b m r s x y = only x y
 
 pub dist-mat-only : (n : ℕ) (w : List ℕ) (f : List Float) (p : Vec3) (r s : Found) → r ≡ distMatAnswer n w f p → s ≡ distMatAnswer n w f p → r ≡ s
 dist-mat-only n w f p r s x y = only x y
+
+pub query-tree-only : (n : ℕ) (nw : List ℕ) (nf : List Float) (o w : List ℕ) (f : List Float) (p : Vec3) (b : Float) (m : ℕ) (r s : Found)
+    → r ≡ queryTreeAnswer n nw nf o w f p b m → s ≡ queryTreeAnswer n nw nf o w f p b m → r ≡ s
+query-tree-only n nw nf o w f p b m r s x y = only x y
+
+pub dist-mat-tree-only : (n : ℕ) (nw : List ℕ) (nf : List Float) (o w : List ℕ) (f : List Float) (p : Vec3) (r s : Found)
+    → r ≡ distMatTreeAnswer n nw nf o w f p → s ≡ distMatTreeAnswer n nw nf o w f p → r ≡ s
+dist-mat-tree-only n nw nf o w f p r s x y = only x y

@@ -1,49 +1,24 @@
--- `lent::dist_mat` meets its contract: what was loaded is what the bytes stand for. Assumes nothing.
-use lib.Ieee.{binary32, ofBits}
-use Rattle.lent.specs.Queries.{distMatLoaded, distMatReply}
-use Rattle.lent.proofs.Loads.{loaded}
+-- `lent::dist_mat` meets its contract. Assumes nothing.
+use borrow.Author.Tests.{eq-eqb, ne-eqb}
+use Rattle.lent.specs.Queries.{distMatReply}
 use borrow.Author.Needs.{needs}
 use Rattle.lent.proofs.dist_mat.Statement.{statement}
 use Rattle.lent.proofs.dist_mat.Tie as tie
 
-slice-aggregate-load-plan : tie.Need-slice-aggregate-load-plan
-slice-aggregate-load-plan c = search needs
-
-load-plan-requires : tie.Need-load-plan-requires
-load-plan-requires c κs = search needs
-
-slice-aggregate-floats : tie.Need-slice-aggregate-floats
-slice-aggregate-floats c = search needs
-
-slice-aggregate-floats-2 : tie.Need-slice-aggregate-floats-2
-slice-aggregate-floats-2 c = search needs
-
-floats-requires : tie.Need-floats-requires
-floats-requires c κs = search needs
-
-array-read-before : tie.Need-array-read-before
-array-read-before c = search needs
-
-before-requires : tie.Need-before-requires
-before-requires c κs = search needs
-
-dist-mat-loaded-requires : tie.Need-dist-mat-loaded-requires
-dist-mat-loaded-requires c κs = search needs
+dist-mat-by-tree-requires : tie.Need-dist-mat-by-tree-requires
+dist-mat-by-tree-requires c κs = search needs
 
 returns : tie.Need-returns
 unfolding distMatReply
-returns c = loaded distMatLoaded _ _ _ _ _ (ofBits binary32 0) _ _ _ _ (c .before .before .before .before .before .before .before .before .before .load-plan .ensures) (c .before .before .before .before .before .floats .ensures) (c .before .before .before .before2 .ensures) (c .dist-mat-loaded .ensures)
+returns c = simp (eq-eqb _ 1 (c .before .if1 .taken)) (c .dist-mat-by-tree .ensures)
+
+dist-mat-by-list-requires : tie.Need-dist-mat-by-list-requires
+dist-mat-by-list-requires c κs = search needs
+
+returns-2 : tie.Need-returns-2
+unfolding distMatReply
+returns-2 c = simp (ne-eqb _ 1 (c .before .if1 .left)) (c .dist-mat-by-list .ensures)
 
 pub dist-mat-spec : {M : Type 1} → statement M
 dist-mat-spec =
-    tie.close
-    (tie.spec
-    slice-aggregate-load-plan
-    load-plan-requires
-    slice-aggregate-floats
-    slice-aggregate-floats-2
-    floats-requires
-    array-read-before
-    before-requires
-    dist-mat-loaded-requires
-    returns)
+    tie.close (tie.spec dist-mat-by-tree-requires returns dist-mat-by-list-requires returns-2)

@@ -1,49 +1,23 @@
--- `lent::query` meets its contract: what was loaded is what the bytes stand for. Assumes nothing.
-use lib.Ieee.{binary32, ofBits}
-use Rattle.lent.specs.Queries.{queryLoaded, queryReply}
-use Rattle.lent.proofs.Loads.{loaded}
+-- `lent::query` meets its contract. Assumes nothing.
+use borrow.Author.Tests.{eq-eqb, ne-eqb}
+use Rattle.lent.specs.Queries.{queryReply}
 use borrow.Author.Needs.{needs}
 use Rattle.lent.proofs.query.Statement.{statement}
 use Rattle.lent.proofs.query.Tie as tie
 
-slice-aggregate-load-plan : tie.Need-slice-aggregate-load-plan
-slice-aggregate-load-plan c = search needs
-
-load-plan-requires : tie.Need-load-plan-requires
-load-plan-requires c κs = search needs
-
-slice-aggregate-floats : tie.Need-slice-aggregate-floats
-slice-aggregate-floats c = search needs
-
-slice-aggregate-floats-2 : tie.Need-slice-aggregate-floats-2
-slice-aggregate-floats-2 c = search needs
-
-floats-requires : tie.Need-floats-requires
-floats-requires c κs = search needs
-
-array-read-before : tie.Need-array-read-before
-array-read-before c = search needs
-
-before-requires : tie.Need-before-requires
-before-requires c κs = search needs
-
-query-loaded-requires : tie.Need-query-loaded-requires
-query-loaded-requires c κs = search needs
+query-by-tree-requires : tie.Need-query-by-tree-requires
+query-by-tree-requires c κs = search needs
 
 returns : tie.Need-returns
 unfolding queryReply
-returns c = loaded queryLoaded _ _ _ _ _ (ofBits binary32 0) _ _ _ _ (c .before .before .before .before .before .before .before .before .before .load-plan .ensures) (c .before .before .before .before .before .floats .ensures) (c .before .before .before .before2 .ensures) (c .query-loaded .ensures)
+returns c = simp (eq-eqb _ 1 (c .before .if1 .taken)) (c .query-by-tree .ensures)
+
+query-by-list-requires : tie.Need-query-by-list-requires
+query-by-list-requires c κs = search needs
+
+returns-2 : tie.Need-returns-2
+unfolding queryReply
+returns-2 c = simp (ne-eqb _ 1 (c .before .if1 .left)) (c .query-by-list .ensures)
 
 pub query-spec : {M : Type 1} → statement M
-query-spec =
-    tie.close
-    (tie.spec
-    slice-aggregate-load-plan
-    load-plan-requires
-    slice-aggregate-floats
-    slice-aggregate-floats-2
-    floats-requires
-    array-read-before
-    before-requires
-    query-loaded-requires
-    returns)
+query-spec = tie.close (tie.spec query-by-tree-requires returns query-by-list-requires returns-2)

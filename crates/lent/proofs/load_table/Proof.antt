@@ -1,8 +1,8 @@
--- `lent::load_plan` meets its contract. Assumes nothing.
+-- `lent::load_table` meets its contract. Assumes nothing.
 use borrow.Author.Tests.{le-leb, lt-leb}
 use borrow.Author.Needs.{needs}
-use Rattle.lent.proofs.load_plan.Statement.{statement}
-use Rattle.lent.proofs.load_plan.Tie as tie
+use Rattle.lent.proofs.load_table.Statement.{statement}
+use Rattle.lent.proofs.load_table.Tie as tie
 
 slice-aggregate-load : tie.Need-slice-aggregate-load
 slice-aggregate-load c = search needs
@@ -25,8 +25,8 @@ same-length-2 c = search needs
 returns-2 : tie.Need-returns-2
 returns-2 c = simp (le-leb _ _ (c .before .before .before .before .if1 .left)) (c .before .before .load2 .ensures)
 
-pub load-plan-spec : {M : Type 1} → statement M
-load-plan-spec =
+pub load-table-spec : {M : Type 1} → statement M
+load-table-spec =
     tie.close
     (tie.spec
     slice-aggregate-load
