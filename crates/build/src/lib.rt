@@ -98,7 +98,7 @@ pub fn build_recursive(
 fn load_boxes(ws: &[u32; 22288], fs: &[f32; 22288], t: &mut [f32])
     ensures { λ _. ⌜ tableBoxes (now (t .exit)) ≡ laid (tableBoxes (now (t .entry))) 0 (boxesOf (now (ws .entry)) (now (fs .entry))) ⌝ }
 {
-    let n = ws[3];
+    let n = objects(ws);
     let mut o: u32 = 0;
     while o < n {
         split::put_box(t, o as usize, boxes::object_box(ws, fs, o));
