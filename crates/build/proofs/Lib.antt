@@ -1,2 +1,5 @@
 pub mod Laid
 pub mod Turns
+pub mod Fuel
+pub mod Shape
+pub mod Same

@@ -17,7 +17,7 @@ use Rattle.split.specs.Bins.{gridOf}
 use Rattle.split.specs.Part.{swapped, goesLeft, partFrom, parted, evened, splitOf, cutOf}
 use Rattle.split.proofs.Perms.{Perm, All, Apart, perm-length, perm-all, perm-apart, exchange-perm}
 
-swapped-perm : (i j : ℕ) (xs : List ℕ) → Perm xs (swapped i j xs)
+pub swapped-perm : (i j : ℕ) (xs : List ℕ) → Perm xs (swapped i j xs)
 unfolding swapped
 swapped-perm i j xs = go (ltb i (length xs)) (ltb j (length xs)) refl refl
   where
