@@ -3,3 +3,4 @@ pub mod Turns
 pub mod Fuel
 pub mod Shape
 pub mod Same
+pub mod Level
