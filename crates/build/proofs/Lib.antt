@@ -4,3 +4,4 @@ pub mod Fuel
 pub mod Shape
 pub mod Same
 pub mod Level
+pub mod Whole

@@ -1,0 +1,39 @@
+-- `build::build_front` meets its contract: the places past the objects stand. Assumes nothing.
+use mathlib.Core.Path.{_≡_, sym, _∙_}
+use native.Mathlib.Omega.{arith}
+use lib.ListN.{length, take}
+use lib.Seq.{length-take-le}
+use Rattle.num.specs.F32.{f0}
+use Rattle.build.proofs.Whole.{table-of, builds-some}
+use borrow.Author.Needs.{needs}
+use Rattle.build.proofs.build_front.Statement.{statement}
+use Rattle.build.proofs.build_front.Tie as tie
+
+returns : tie.Need-returns
+returns c = λ e l p h. absurd (omega (arith, c .if1 .taken))
+
+slice-relend-prefix-build-with : tie.Need-slice-relend-prefix-build-with
+slice-relend-prefix-build-with c = search needs
+
+slice-aggregate-build-with : tie.Need-slice-aggregate-build-with
+slice-aggregate-build-with c = sym (length-take-le _ _ (omega (arith, c .before .before .if1 .left)))
+
+build-with-requires : tie.Need-build-with-requires
+build-with-requires c κs = search needs
+
+same-length : tie.Need-same-length
+same-length c = search needs
+
+returns-2 : tie.Need-returns-2
+returns-2 c = λ e l p h. let ow = c .before .before .before .before .before .before .before .before .args .ow .now in let n = c .before .before .before .before .before .before .before .before .args .n in let k : length (take n ow) ≡ n = length-take-le n ow (omega arith) in builds-some _ _ _ _ _ _ _ _ (c .before .before .build-with .ensures (table-of 256 f0) (k ∙ e) (omega arith) (omega arith)) e p (omega arith)
+
+pub build-front-spec : {M : Type 1} → statement M
+build-front-spec =
+    tie.close
+    (tie.spec
+    returns
+    slice-relend-prefix-build-with
+    slice-aggregate-build-with
+    build-with-requires
+    same-length
+    returns-2)
