@@ -1,9 +1,9 @@
 -- One call of `build_recursive`, over plain lists: with no room, at a leaf, and at a node whose two parts are built. A node's words lie before its left
 -- part's, so it does not matter which is written first. By the laws of one level and of `laid`. Assumes nothing.
-use Prim.Native.Nat.{ℕ, zero, suc, _+_, _-_, _*_, _%_, _^_, _≤_, _<_}
+use Prim.Native.Nat.{ℕ, _+_, _-_, _*_, _%_, _^_, _≤_, _<_}
 use mathlib.Core.Path.{_≡_, refl, sym, ap, subst, _∙_}
-use mathlib.Core.Bool.{Bool, true, false, cond, _&&_}
-use mathlib.Core.List.{List, [], _∷_, _++_, append-nil}
+use mathlib.Core.Bool.{Bool, true, false, _&&_}
+use mathlib.Core.List.{List, _++_, append-nil}
 use native.Mathlib.Nat.{mod-eq-of-lt}
 use native.Mathlib.Omega.{arith}
 use lib.Dec.{ltb}
@@ -13,7 +13,7 @@ use borrow.Author.Tests.{lt-ltb}
 use borrow.Rule.Slice.PartMut.{putMid, same-len-mid}
 use Rattle.sdf.specs.declared.Aabb.{Aabb}
 use Rattle.vec.specs.declared.Vec3.{Vec3}
-use Rattle.tree.specs.Rules.{Tree, node, size, weight}
+use Rattle.tree.specs.Rules.{size, weight}
 use Rattle.split.specs.declared.Span.{Span}
 use Rattle.split.specs.Range.{spanOf, extentOf, stops}
 use Rattle.split.specs.Part.{cutOf}
@@ -23,7 +23,7 @@ use Rattle.build.specs.Build.{Made, joined, buildOf}
 use Rattle.build.specs.Encode.{nodeWords, encode, laid, lowOf, low32}
 use Rattle.build.specs.Tables.{Lays, Room}
 use Rattle.build.proofs.Laid.{laid-append, laid-laid}
-use Rattle.build.proofs.Fuel.{stopsAt, cutAt, leftPart, rightPart, many-go, build-leaf, build-parts}
+use Rattle.build.proofs.Fuel.{stopsAt, leftPart, rightPart, many-go, build-leaf, build-parts}
 use Rattle.build.proofs.Shape.{build-shape, encode-length}
 
 low-same : (x : ℕ) → x ≤ 512 → low32 x ≡ x
@@ -146,13 +146,13 @@ module _ (bs : List Aabb) (os : List ℕ) (sp : Span) (e : Vec3) (t : Bool) (p :
         let z : rest m (ol ++ drop m ps) ≡ drop m ps = rest-is os ps ol m k len in
         let n : length (drop m ps) ≡ length os - m = length-drop m ps ∙ ap (λ (x : ℕ). x - m) (k .same) in
         let sh = build-shape bs (take m ps) in
-        let big = sh .sized (omega (arith, k .some, k .taken)) in
-        let x = A (record { some = omega (arith, k .some, k .taken); nodes = omega (arith, room .nodes, k .less, k .taken); places = omega (arith, room .places, k .less, k .taken) }) in
+        let big = sh .sized (omega arith) in
+        let x = A (record { some = omega arith; nodes = omega arith; places = omega arith }) in
         let nl = x .next-is in
-        let r₁ : right ≡ l .next = er ∙ low-same (l .next) (omega (arith, room .nodes, k .less, k .taken)) in
-        let s₁ : second ≡ s + m = es ∙ mod-eq-of-lt (omega (arith, room .places, k .less)) in
+        let r₁ : right ≡ l .next = er ∙ low-same (l .next) (omega arith) in
+        let s₁ : second ≡ s + m = es ∙ mod-eq-of-lt (omega arith) in
         let s₂ : second ≡ s + weight (buildOf bs (take m ps) .tree) = s₁ ∙ ap (λ (x : ℕ). s + x) (sym (sh .weighs ∙ k .taken)) in
-        let y = B (rw z (record { some = omega (arith, k .less); nodes = omega (arith, room .nodes, k .less, k .taken); places = omega (arith, room .places, k .less) })) in
+        let y = B (rw z (record { some = omega arith; nodes = omega arith; places = omega arith })) in
         rw (build-parts bs os (tested false q), sym lp, sym rp, sym p, back-is os ps ol m k len or, el)
         (lays-joined nw at s levels (sp .hull) (buildOf bs (take m ps)) (buildOf bs (drop m ps)) l r second nw₁ nw₂ nw₃ ol or
         (subst (λ (v : ℕ). Lays (buildOf bs (take m ps)) nw (at + 1) s v l nw₁ ol) eb x)

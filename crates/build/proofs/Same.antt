@@ -1,6 +1,6 @@
 -- What is built depends on the boxes of the range's objects only. By one step of each definition, and induction on the calls left. Assumes nothing.
 use Prim.Native.Nat.{ℕ, zero, suc, _+_, _<_}
-use mathlib.Core.Path.{_≡_, refl, sym, ap, subst, _∙_}
+use mathlib.Core.Path.{_≡_, refl, sym, ap, _∙_}
 use mathlib.Core.Bool.{Bool, true, false, cond}
 use mathlib.Core.List.{List, [], _∷_}
 use native.Mathlib.Omega.{arith}
@@ -16,7 +16,7 @@ use Rattle.split.specs.Bins.{gridOf, noBins, binOf, binsFrom, splitBy}
 use Rattle.split.specs.Part.{swapped, goesLeft, Parted, partFrom, parted, evened, splitOf, cutOf}
 use Rattle.split.proofs.Perms.{All, perm-all}
 use Rattle.split.proofs.Cuts.{swapped-perm, length-swapped, cut-all}
-use Rattle.tree.specs.Rules.{Tree, leaf, node}
+use Rattle.tree.specs.Rules.{leaf}
 use Rattle.build.specs.Build.{Made, leafOf, joined, buildFrom, buildOf}
 use Rattle.build.proofs.Fuel.{stopsAt, cutAt, leftPart, rightPart, from-leaf, from-parts}
 

@@ -1,7 +1,7 @@
 -- The tree of a range: it weighs what the range has, has fewer than twice as many nodes, no empty leaf, and its order is the range's objects. And the words
 -- of a tree: nine to a node. By induction on the tree, and by the two ways of a range. Assumes nothing.
 use Prim.Native.Nat.{ℕ, _+_, _-_, _*_, _≤_, _<_, max}
-use mathlib.Core.Path.{_≡_, refl, sym, _∙_}
+use mathlib.Core.Path.{_≡_, refl, sym}
 use mathlib.Core.Bool.{Bool, true, false, _&&_}
 use mathlib.Core.List.{List, List·Permᴰ·trans, Permᴰ·refl}
 use native.Mathlib.Omega.{arith}
@@ -14,7 +14,7 @@ use Rattle.split.specs.Range.{spanOf}
 use Rattle.split.proofs.Perms.{Perm, perm-length, perm-halves}
 use Rattle.split.proofs.Cuts.{cut-once}
 use Rattle.build.specs.Build.{Made, leafOf, joined, buildOf}
-use Rattle.build.specs.Encode.{nodeWords, encode, lowOf}
+use Rattle.build.specs.Encode.{encode, lowOf}
 use Rattle.build.proofs.Fuel.{stopsAt, cutAt, leftPart, rightPart, left-some, right-some, parts-length, build-each}
 
 -- every leaf has a count above 0

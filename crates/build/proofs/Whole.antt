@@ -1,16 +1,14 @@
 -- The build of a plan: the table that the code fills has the boxes of the plan's objects, its numbers are theirs, and the parts past them stand. By the laws
 -- of `laid` and of what a build depends on. Assumes nothing.
-use Prim.Native.Nat.{ℕ, zero, suc, _+_, _*_, _/_, _≤_, _<_}
-use mathlib.Core.Path.{_≡_, refl, sym, ap, subst, _∙_}
-use mathlib.Core.Bool.{Bool, true, false, cond}
+use Prim.Native.Nat.{ℕ, _+_, _*_, _/_, _≤_, _<_}
+use mathlib.Core.Path.{_≡_, sym, ap, subst, _∙_}
+use mathlib.Core.Bool.{true}
 use mathlib.Core.List.{List, _++_}
-use native.Mathlib.Nat.{mul-zero}
 use native.Mathlib.Omega.{arith}
 use lib.ListN.{length, getD, drop, replicate, length-replicate, getD-replicate}
 use lib.Seq.{ext-getD}
 use lib.Ieee.{Float, nan}
 use borrow.Author.Tests.{lt-ltb, eq-eqb, ne-eqb}
-use Rattle.num.specs.F32.{f0}
 use Rattle.vec.specs.Vec.{vsplat}
 use Rattle.sdf.specs.declared.Aabb.{Aabb}
 use Rattle.words.specs.Lists.{listFrom}
@@ -18,12 +16,12 @@ use Rattle.words.proofs.Runs.{getD-from, length-from, from-same}
 use Rattle.scene.specs.Model.{countObjects}
 use Rattle.boxes.specs.Boxes.{boxesOf, boxAt, noBox}
 use Rattle.boxes.proofs.Lists as lists
-use Rattle.split.specs.Table.{boxIn, tableBoxes}
+use Rattle.split.specs.Table.{tableBoxes}
 use Rattle.split.proofs.Table.{box-count, box-here}
 use Rattle.split.proofs.Perms.{All}
 use Rattle.build.specs.declared.Built.{Built}
 use Rattle.build.specs.Build.{Made, buildOf}
-use Rattle.build.specs.Encode.{encode, laid, lowOf, low32}
+use Rattle.build.specs.Encode.{laid, low32}
 use Rattle.build.specs.Tables.{Lays, Room, self, builtOf, sizeOf, lowEnough, nodesWith, orderWith, Builds, zeroBox}
 use Rattle.build.proofs.Laid.{laid-here, laid-front}
 use Rattle.build.proofs.Shape.{order-length}

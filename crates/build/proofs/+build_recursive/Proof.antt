@@ -43,13 +43,39 @@ build-recursive-below t =
     build-recursive.Pre
 
 abbrev R : ℕ → build-recursive-lts.Claims
-R t = (span-of-reads.Asked, span-of-reads.Learnt, extent-reads.Asked, extent-reads.Learnt, stops-reads.Asked, stops-reads.Learnt, narrow-reads.Asked, narrow-reads.Learnt, put-node-reads.Asked, put-node-reads.Learnt, cut-reads.Asked, cut-reads.Learnt, less-reads.Asked, less-reads.Learnt, build-recursive-below t, build-recursive.Post, wrapping-add-usize-reads.Asked, wrapping-add-usize-reads.Learnt, both-reads.Asked, both-reads.Learnt)
+R t = (
+  span-of-reads.Asked,
+  span-of-reads.Learnt,
+  extent-reads.Asked,
+  extent-reads.Learnt,
+  stops-reads.Asked,
+  stops-reads.Learnt,
+  narrow-reads.Asked,
+  narrow-reads.Learnt,
+  put-node-reads.Asked,
+  put-node-reads.Learnt,
+  cut-reads.Asked,
+  cut-reads.Learnt,
+  less-reads.Asked,
+  less-reads.Learnt,
+  build-recursive-below t,
+  build-recursive.Post,
+  wrapping-add-usize-reads.Asked,
+  wrapping-add-usize-reads.Learnt,
+  both-reads.Asked,
+  both-reads.Learnt,
+)
 
 -- what is known of the cut, and of the range when its left part is back
 cut-of : (t : ℕ) (c : build-recursive-lts.After-cut (R t) (build-recursive-at t) build-recursive.Post) → Cut (c .before .before .before .before .before .before .before .before .before .before .before .before .args .os .now) (c .cut .last .0) (c .cut .result)
-cut-of t c = cut-known _ _ _ _ _ (c .before .before .before .before .before .before .before .span-of .ensures) (c .before .before .before .before .extent .ensures) (c .before .before .before .stops .ensures) _ _ (c .before .before .if2 .left) (c .cut .ensures)
+cut-of t c =
+    let s = c .before .before .before in
+    let o = s .before .before .before .before in
+    cut-known _ _ _ _ _ (o .span-of .ensures) (s .before .extent .ensures) (s .stops .ensures) _ _ (c .before .before .if2 .left) (c .cut .ensures)
 
-back-of : (t : ℕ) (c : build-recursive-lts.After-build-recursive (R t) (build-recursive-at t) build-recursive.Post) → length (c .build-recursive .last .1 .0 ++ drop (c .before .before .before .before .before .before .cut .result) (c .before .before .before .before .before .before .cut .last .0)) ≡ length (c .before .before .before .before .before .before .before .before .before .before .before .before .before .before .before .before .before .before .args .os .now)
+back-of : (t : ℕ) (c : build-recursive-lts.After-build-recursive (R t) (build-recursive-at t) build-recursive.Post)
+    → length (c .build-recursive .last .1 .0 ++ drop (c .before .before .before .before .before .before .cut .result) (c .before .before .before .before .before .before .cut .last .0))
+    ≡ length (c .before .before .before .before .before .before .before .before .before .before .before .before .before .before .before .before .before .before .args .os .now)
 back-of t c = back-length _ _ (c .build-recursive .last .1 .0) _ (cut-of t (c .before .before .before .before .before .before)) (c .build-recursive .kept .1 .0)
 
 build-recursive-returns : (t : ℕ) → build-recursive-lts.Need-returns (R t) (build-recursive-at t) build-recursive.Post
@@ -80,7 +106,12 @@ build-recursive-same-length : (t : ℕ) → build-recursive-lts.Need-same-length
 build-recursive-same-length t c = search needs
 
 build-recursive-returns-2 : (t : ℕ) → build-recursive-lts.Need-returns-2 (R t) (build-recursive-at t) build-recursive.Post
-build-recursive-returns-2 t c = lays-leaf _ _ _ _ _ (c .before .before .before .before .before .before .before .before .before .span-of .ensures) (c .before .before .before .before .before .before .extent .ensures) (c .before .before .before .before .before .stops .ensures) _ _ _ _ _ _ _ (c .before .before .before .before .if2 .taken) (c .before .before .narrow .ensures) (c .before .narrow2 .ensures) (c .put-node .ensures)
+build-recursive-returns-2 t c =
+    let n = c .before .before in
+    let s = n .before .before .before in
+    let o = s .before .before .before .before in
+    lays-leaf _ _ _ _ _ (o .span-of .ensures) (s .before .extent .ensures) (s .stops .ensures) _ _ _ _ _ _ _ (n .before .before .if2 .taken) (n .narrow .ensures)
+    (c .before .narrow2 .ensures) (c .put-node .ensures)
 
 build-recursive-cut-requires : (t : ℕ) → build-recursive-lts.Need-cut-requires (R t) (build-recursive-at t) build-recursive.Post
 build-recursive-cut-requires t c κs = search needs
@@ -101,7 +132,9 @@ build-recursive-add-build-recursive t c = omega (arith, (c .before .before .befo
 
 build-recursive-build-recursive-requires :
     (t : ℕ) → build-recursive-lts.Need-build-recursive-requires (R t) (build-recursive-at t) build-recursive.Post
-build-recursive-build-recursive-requires t c κs = let k = cut-of t (c .before .before .before .before .before) in (omega (arith, (c .before .before .before .before .before .before .before .before .before .before .before .before .before .before .before .before .before .pre .0)), tt)
+build-recursive-build-recursive-requires t c κs =
+    let k = cut-of t (c .before .before .before .before .before) in
+    (omega (arith, c .before .before .before .before .before .before .before .before .before .before .before .before .before .before .before .before .before .pre .0), tt)
 
 build-recursive-narrow-requires-3 : (t : ℕ) → build-recursive-lts.Need-narrow-requires-3 (R t) (build-recursive-at t) build-recursive.Post
 build-recursive-narrow-requires-3 t c κs = search needs
@@ -114,14 +147,20 @@ build-recursive-wrapping-add-usize-requires :
 build-recursive-wrapping-add-usize-requires t c κs = search needs
 
 build-recursive-mul-build-recursive : (t : ℕ) → build-recursive-lts.Need-mul-build-recursive (R t) (build-recursive-at t) build-recursive.Post
-build-recursive-mul-build-recursive t c = let k = cut-of t (c .before .before .before .before .before .before .before .before .before .before .before .before .before) in omega (arith, (c .before .before .before .before .before .before .before .before .before .before .before .before .before .before .before .before .before .before .before .before .before .before .before .before .before .good .1 .0 .1))
+build-recursive-mul-build-recursive t c =
+    let k = cut-of t (c .before .before .before .before .before .before .before .before .before .before .before .before .before) in
+    omega (arith, c .before .before .before .before .before .before .before .before .before .before .before .before .before .before .before .before .before .before .before .before .before .before .before .before .before .good .1 .0 .1)
 
 build-recursive-sub-build-recursive : (t : ℕ) → build-recursive-lts.Need-sub-build-recursive (R t) (build-recursive-at t) build-recursive.Post
-build-recursive-sub-build-recursive t c = let k = cut-of t (c .before .before .before .before .before .before .before .before .before .before .before .before .before) in omega (arith, back-of t (c .before .before .before .before .before .before .before))
+build-recursive-sub-build-recursive t c =
+    let k = cut-of t (c .before .before .before .before .before .before .before .before .before .before .before .before .before) in
+    omega (arith, back-of t (c .before .before .before .before .before .before .before))
 
 build-recursive-part-build-recursive-start :
     (t : ℕ) → build-recursive-lts.Need-part-build-recursive-start (R t) (build-recursive-at t) build-recursive.Post
-build-recursive-part-build-recursive-start t c = let k = cut-of t (c .before .before .before .before .before .before .before .before .before .before .before .before .before) in omega (arith, back-of t (c .before .before .before .before .before .before .before))
+build-recursive-part-build-recursive-start t c =
+    let k = cut-of t (c .before .before .before .before .before .before .before .before .before .before .before .before .before) in
+    omega (arith, back-of t (c .before .before .before .before .before .before .before))
 
 build-recursive-part-build-recursive-end :
     (t : ℕ) → build-recursive-lts.Need-part-build-recursive-end (R t) (build-recursive-at t) build-recursive.Post
@@ -129,16 +168,35 @@ build-recursive-part-build-recursive-end t c = search needs
 
 build-recursive-build-recursive-requires-2 :
     (t : ℕ) → build-recursive-lts.Need-build-recursive-requires-2 (R t) (build-recursive-at t) build-recursive.Post
-build-recursive-build-recursive-requires-2 t c κs = (right-falls _ _ (c .before .before .before .before .before .before .before .before .build-recursive .last .1 .0) _ (cut-of t (c .before .before .before .before .before .before .before .before .before .before .before .before .before .before)) (c .before .before .before .before .before .before .before .before .build-recursive .kept .1 .0) _ (c .before .before .before .before .before .before .before .before .before .before .before .before .before .before .before .before .before .before .before .before .before .before .before .before .before .before .pre .0), tt)
+build-recursive-build-recursive-requires-2 t c κs =
+    let l = c .before .before .before .before .before .before .before .before in
+    let k = l .before .before .before .before .before .before in
+    (right-falls _ _ (l .build-recursive .last .1 .0) _ (cut-of t k) (l .build-recursive .kept .1 .0) _ (k .before .before .before .before .before .before .before .before .before .before .before .before .pre .0), tt)
 
 build-recursive-both-requires : (t : ℕ) → build-recursive-lts.Need-both-requires (R t) (build-recursive-at t) build-recursive.Post
 build-recursive-both-requires t c κs = search needs
 
 build-recursive-same-length-2 : (t : ℕ) → build-recursive-lts.Need-same-length-2 (R t) (build-recursive-at t) build-recursive.Post
-build-recursive-same-length-2 t c = whole-length _ _ (c .before .before .before .before .before .before .before .before .before .before .before .before .build-recursive .last .1 .0) _ (cut-of t (c .before .before .before .before .before .before .before .before .before .before .before .before .before .before .before .before .before .before)) (c .before .before .before .before .before .before .before .before .before .before .before .before .build-recursive .kept .1 .0) (c .before .before .before .build-recursive2 .last .1 .0) (c .before .before .before .build-recursive2 .kept .1 .0)
+build-recursive-same-length-2 t c =
+    let r = c .before .before .before in
+    let l = r .before .before .before .before .before .before .before .before .before in
+    whole-length _ _ (l .build-recursive .last .1 .0) _ (cut-of t (l .before .before .before .before .before .before)) (l .build-recursive .kept .1 .0) (r .build-recursive2 .last .1 .0)
+    (r .build-recursive2 .kept .1 .0)
 
 build-recursive-returns-3 : (t : ℕ) → build-recursive-lts.Need-returns-3 (R t) (build-recursive-at t) build-recursive.Post
-build-recursive-returns-3 t c = lays-node _ _ _ _ _ (c .before .before .before .before .before .before .before .before .before .before .before .before .before .before .before .before .before .before .before .before .before .before .before .before .before .span-of .ensures) (c .before .before .before .before .before .before .before .before .before .before .before .before .before .before .before .before .before .before .before .before .before .before .extent .ensures) (c .before .before .before .before .before .before .before .before .before .before .before .before .before .before .before .before .before .before .before .before .before .stops .ensures) _ _ _ _ (c .before .before .before .before .before .before .before .before .before .before .before .before .before .before .before .before .before .before .cut .result) (c .before .before .before .before .before .before .before .before .before .before .before .before .before .before .before .before .before .before .cut .last .0) _ _ _ (c .before .before .before .before .before .before .before .before .before .before .before .before .build-recursive .last .1 .0) _ _ _ _ _ (c .before .before .before .build-recursive2 .last .1 .0) _ (c .before .before .before .before .before .before .before .before .before .before .before .before .before .before .before .before .before .before .before .before .if2 .left) (c .before .before .before .before .before .before .before .before .before .before .before .before .before .before .before .before .before .before .cut .ensures) (c .before .before .before .before .before .before .before .before .before .before .before .before .before .before .before .less .ensures) (c .before .before .before .before .before .before .before .before .before .before .before .before .build-recursive .ensures) (c .before .before .before .before .before .before .before .before .before .before .before .before .build-recursive .kept .1 .0) (c .before .before .before .before .before .before .before .before .narrow3 .ensures) (c .before .before .before .before .before .before .before .put-node2 .ensures) (c .before .before .before .before .before .before .wrapping-add-usize .ensures) (c .before .before .before .build-recursive2 .ensures) (c .both .ensures)
+build-recursive-returns-3 t c =
+    let r = c .before .before .before in
+    let w = r .before .before .before in
+    let n = w .before .before in
+    let l = n .before .before .before .before in
+    let d = l .before .before .before in
+    let k = d .before .before .before in
+    let s = k .before .before .before in
+    let o = s .before .before .before .before in
+    lays-node _ _ _ _ _ (o .span-of .ensures) (s .before .extent .ensures) (s .stops .ensures) _ _ _ _ (k .cut .result) (k .cut .last .0) _ _ _
+    (l .build-recursive .last .1 .0) _ _ _ _ _ (r .build-recursive2 .last .1 .0) _ (k .before .before .if2 .left) (k .cut .ensures) (d .less .ensures)
+    (l .build-recursive .ensures) (l .build-recursive .kept .1 .0) (n .narrow3 .ensures) (w .before .put-node2 .ensures)
+    (w .wrapping-add-usize .ensures) (r .build-recursive2 .ensures) (c .both .ensures)
 
 pub +build-recursive-spec : {M : Type 1} → statement M
 +build-recursive-spec = close μ-build-recursive λ t. build-recursive-lts.spec (R t)

@@ -25,7 +25,10 @@ same-length : tie.Need-same-length
 same-length c = search needs
 
 returns-2 : tie.Need-returns-2
-returns-2 c = λ e l p h. let ow = c .before .before .before .before .before .before .before .before .args .ow .now in let n = c .before .before .before .before .before .before .before .before .args .n in let k : length (take n ow) ≡ n = length-take-le n ow (omega arith) in builds-some _ _ _ _ _ _ _ _ (c .before .before .build-with .ensures (table-of 256 f0) (k ∙ e) (omega arith) (omega arith)) e p (omega arith)
+returns-2 c = λ e l p h.
+    let a = c .before .before .before .before .before .before .before .before .args in
+    let k : length (take (a .n) (a .ow .now)) ≡ a .n = length-take-le (a .n) (a .ow .now) (omega arith) in
+    builds-some _ _ _ _ _ _ _ _ (c .before .before .build-with .ensures (table-of 256 f0) (k ∙ e) (omega arith) (omega arith)) e p (omega arith)
 
 pub build-front-spec : {M : Type 1} → statement M
 build-front-spec =

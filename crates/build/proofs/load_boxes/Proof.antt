@@ -34,7 +34,10 @@ loop-less : tie.Need-loop-less Inv-loop μ-loop
 loop-less c = search needs
 
 loop-again : tie.Need-loop-again Inv-loop μ-loop
-loop-again c = let L = c .before .before .before .before .before .before .loop in (omega arith, load-more _ _ _ (L .t) _ (L .o) _ (omega arith) (c .before .before .before .object-box .ensures) (c .before .before .put-box .ensures) (L .inv .1))
+loop-again c =
+    let p = c .before .before in
+    let L = p .before .before .before .before .loop in
+    (omega arith, load-more _ _ _ (L .t) _ (L .o) _ (omega arith) (p .before .object-box .ensures) (p .put-box .ensures) (L .inv .1))
 
 same-length : tie.Need-same-length Inv-loop μ-loop
 same-length c = search needs

@@ -1,6 +1,6 @@
 -- `build::number` meets its contract: the places passed hold their numbers. Assumes nothing.
 use Prim.Native.Nat.{_≤_, _-_}
-use mathlib.Core.Path.{_≡_, refl, ap, _∙_}
+use mathlib.Core.Path.{_≡_, refl, _∙_}
 use native.Mathlib.Omega.{arith}
 use lib.ListN.{length, take, length-set}
 use borrow.Author.Needs.{needs}
@@ -35,7 +35,12 @@ loop-less : tie.Need-loop-less Inv-loop μ-loop
 loop-less c = search needs
 
 loop-again : tie.Need-loop-again Inv-loop μ-loop
-loop-again c = let L = c .before .before .loop in (omega arith, length-set (L .os) (L .i) _ ∙ L .inv .1, fill-more low32 (L .os) (L .i) _ (c .before .loop-test .taken) (c .narrow .ensures) (L .inv .2))
+loop-again c =
+    let L = c .before .before .loop in (
+      omega arith,
+      length-set (L .os) (L .i) _ ∙ L .inv .1,
+      fill-more low32 (L .os) (L .i) _ (c .before .loop-test .taken) (c .narrow .ensures) (L .inv .2),
+    )
 
 same-length : tie.Need-same-length Inv-loop μ-loop
 same-length c = search needs

@@ -107,7 +107,11 @@ element-write-nw-9 : tie.Need-element-write-nw-9
 element-write-nw-9 c = search needs
 
 returns : tie.Need-returns
-returns c = node-put _ _ _ _ _ _ _ _ _ _ _ _ (c .before .before .before .before .before .bits .ensures) (c .before .before .before .before .bits2 .ensures) (c .before .before .before .bits3 .ensures) (c .before .before .bits4 .ensures) (c .before .bits5 .ensures) (c .bits6 .ensures)
+returns c =
+    let z = c .before .before in
+    let w = z .before .before in
+    node-put _ _ _ _ _ _ _ _ _ _ _ _ (w .before .bits .ensures) (w .bits2 .ensures) (z .before .bits3 .ensures) (z .bits4 .ensures) (c .before .bits5 .ensures)
+    (c .bits6 .ensures)
 
 returns-2 : tie.Need-returns-2
 returns-2 c = sym (laid-past _ _ _ (omega arith))
