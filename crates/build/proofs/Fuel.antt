@@ -102,6 +102,9 @@ module _ (bs : List Aabb) where
       ∙ ap (λ (m : Made). joined (spanOf bs os .hull) (buildFrom k′ bs (leftPart bs os)) m) r
       ∙ sym (from-parts bs os k′ p)
 
+  pub enough : (k k′ : ℕ) (os : List ℕ) → length os ≤ k → length os ≤ k′ → buildFrom k bs os ≡ buildFrom k′ bs os
+  enough k k′ os h h′ = fuel k k′ _ os refl h h′
+
   pub build-leaf : (os : List ℕ) → stopsAt bs os ≡ true → buildOf bs os ≡ leafOf bs os
   unfolding buildOf
   build-leaf os p = from-leaf bs os (length os) p
@@ -111,8 +114,8 @@ module _ (bs : List Aabb) where
   unfolding buildOf
   build-parts os p =
       let n = parts-length bs os p in
-      let l = fuel (length os) (length (leftPart bs os)) _ (leftPart bs os) refl (omega arith) (omega arith) in
-      let r = fuel (length os) (length (rightPart bs os)) _ (rightPart bs os) refl (omega arith) (omega arith) in
-      fuel (length os) (suc (length os)) false os p (omega arith) (omega arith) ∙ from-parts bs os (length os) p
+      let l = enough (length os) (length (leftPart bs os)) (leftPart bs os) (omega arith) (omega arith) in
+      let r = enough (length os) (length (rightPart bs os)) (rightPart bs os) (omega arith) (omega arith) in
+      enough (length os) (suc (length os)) os (omega arith) (omega arith) ∙ from-parts bs os (length os) p
       ∙ ap (λ (m : Made). joined (spanOf bs os .hull) m (buildFrom (length os) bs (rightPart bs os))) l
       ∙ ap (λ (m : Made). joined (spanOf bs os .hull) (buildFrom (length (leftPart bs os)) bs (leftPart bs os)) m) r
