@@ -17,7 +17,8 @@ pub struct Built {
     pub low: bool,
 }
 
-fn narrow(x: usize) -> u32
+// A number as a word, 0 where it does not fit.
+pub fn narrow(x: usize) -> u32
     ensures { λ r. ⌜ r ≡ low32 x ⌝ }
 {
     if x < 4294967296 {

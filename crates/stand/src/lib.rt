@@ -5,7 +5,6 @@ ghost use Prim.Native.Nat.{_*_};
 ghost use lib.ListN.{length};
 ghost use lib.Dec.{eqb};
 ghost use Rattle.scene.specs.Model.{countObjects};
-ghost use Rattle.build.specs.Encode.{low32};
 ghost use Rattle.stand.specs.Stand.{noNodes, noOrder, buildNumber, builtAnswer, builtNodes, builtOrder, offerNumber, sizeIn, offeredAnswer, kept, standBefore, BuildLeaves, offerBefore, OfferLeaves, raisedReply};
 use reply::Reply;
 use tree::Sub;
@@ -15,15 +14,6 @@ pub struct Raised {
     pub number: u32,
     pub nodes: u32,
     pub stores: bool,
-}
-
-fn narrow(x: usize) -> u32
-    ensures { λ r. ⌜ r ≡ low32 x ⌝ }
-{
-    if x < 4294967296 {
-        return x as u32;
-    }
-    0
 }
 
 // The words from place k on become 0.
@@ -53,7 +43,7 @@ fn raise_built(
         if b.low {
             return Raised {
                 number: 0,
-                nodes: narrow(b.next),
+                nodes: build::narrow(b.next),
                 stores: true,
             };
         }
@@ -92,13 +82,14 @@ fn raise_offered(
 ) -> Raised
     ensures { λ r. ⌜ r ≡ offeredAnswer (offerNumber before (now (nw .entry)) (now (nf .entry)) (now (ow .entry)) (now (ws .entry)) (now (fs .entry))) (now (nw .entry)) (now (nf .entry)) (now (ow .entry)) (now (ws .entry)) (now (fs .entry)) ⌝ }
 {
+    let _words: &[u32] = nw;
     let n = rules::lower(before, sound::objects_number(ws, fs));
     if n == 0 {
         let k = tree::offered_number(nw, nf, ow, ws, fs);
         if k == 0 {
             return Raised {
                 number: 0,
-                nodes: narrow(size_in(tree::judge(nw, nf, ow, ws, fs, 64))),
+                nodes: build::narrow(size_in(tree::judge(nw, nf, ow, ws, fs, 64))),
                 stores: true,
             };
         }
@@ -194,7 +185,7 @@ pub fn offer(
     let r = raise_offered(before, &ws, &fs, &nw, &nf, &ow);
     if r.stores {
         keep(&mut nw, 9 * (r.nodes as usize));
-        keep(&mut ow, ws[3] as usize);
+        keep(&mut ow, tree::object_count(&ws) as usize);
         words::store(&nw, nodes);
         words::store(&ow, order);
     }

@@ -123,7 +123,7 @@ fn leaf_words(v: Node, n: usize, start: usize) -> bool
 }
 
 // As a call's result the word is known to fit, so it may be cast.
-fn object_count(ws: &[u32; 22288]) -> u32
+pub fn object_count(ws: &[u32; 22288]) -> u32
     ensures { λ r. ⌜ r ≡ countObjects (now (ws .entry)) ⌝ }
 {
     ws[3]
