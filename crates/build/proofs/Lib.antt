@@ -5,3 +5,5 @@ pub mod Shape
 pub mod Same
 pub mod Level
 pub mod Whole
+pub mod Stands
+pub mod Fitting

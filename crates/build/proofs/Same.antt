@@ -20,12 +20,12 @@ use Rattle.tree.specs.Rules.{leaf}
 use Rattle.build.specs.Build.{Made, leafOf, joined, buildFrom, buildOf}
 use Rattle.build.proofs.Fuel.{stopsAt, cutAt, leftPart, rightPart, from-leaf, from-parts}
 
-all-take : (P : ℕ → Type 0) (m : ℕ) (xs : List ℕ) → All P xs → All P (take m xs)
+pub all-take : (P : ℕ → Type 0) (m : ℕ) (xs : List ℕ) → All P xs → All P (take m xs)
 all-take P m xs h i l =
     let q : i < m = omega (arith, length-take m xs) in
     rw (getD-take m xs i 0 q) (h i (omega (arith, length-take m xs)))
 
-all-drop : (P : ℕ → Type 0) (m : ℕ) (xs : List ℕ) → All P xs → All P (drop m xs)
+pub all-drop : (P : ℕ → Type 0) (m : ℕ) (xs : List ℕ) → All P xs → All P (drop m xs)
 all-drop P m xs h i l = rw (getD-drop m xs i 0) (h (m + i) (omega (arith, length-drop m xs)))
 
 module _ (bs cs : List Aabb) where
