@@ -7,3 +7,6 @@ pub mod Level
 pub mod Whole
 pub mod Stands
 pub mod Fitting
+pub mod Boxed
+pub mod Once
+pub mod Meets

@@ -1,0 +1,160 @@
+-- Whatever the builder builds meets every tree rule but perhaps depth, and its answer tells whether it meets that one. By the laws of its words, its boxes and
+-- its order. Assumes nothing.
+use Prim.Native.Nat.{ℕ, _+_, _*_, _≤_, _<_}
+use mathlib.Core.Path.{_≡_, refl, sym, _∙_}
+use mathlib.Core.Logic.{_⊎_, inl, inr}
+use mathlib.Core.Bool.{Bool, true, false, cond, true≢false}
+use mathlib.Core.List.{List}
+use native.Mathlib.Decide.{decLe}
+use native.Mathlib.Omega.{arith}
+use lib.Dec.{T, ltb, eqb}
+use lib.ListN.{length, replicate, length-replicate}
+use lib.Ieee.{Float}
+use borrow.Author.Tests.{ltb-true, ltb-false, eq-eqb, ne-eqb}
+use Rattle.sdf.specs.declared.Aabb.{Aabb}
+use Rattle.words.specs.Words.{floatsOf}
+use Rattle.words.proofs.Runs.{length-from}
+use Rattle.scene.specs.Model.{countObjects}
+use Rattle.sound.specs.Exact.{SoundObjects}
+use Rattle.boxes.specs.Boxes.{finiteBox, boxesOf, boxAt}
+use Rattle.boxes.proofs.Lists.{box-count, box-here}
+use Rattle.boxes.proofs.Sound.{boxes-finite}
+use Rattle.tree.specs.Rules.{Tree, size, depth, Holds, Accepted, MeetsRules}
+use Rattle.tree.specs.Check.{standingNumber}
+use Rattle.tree.proofs.Exact.{standing-exact}
+use Rattle.split.proofs.Perms.{All, perm-length}
+use Rattle.build.specs.Build.{Made}
+use Rattle.build.specs.Encode.{encode, laid}
+use Rattle.build.specs.Tables.{self, builtOf, sizeOf, lowEnough, nodesWith, orderWith}
+use Rattle.build.proofs.Laid.{length-laid}
+use Rattle.build.proofs.Shape.{Shape, build-shape, encode-length, low-depth}
+use Rattle.build.proofs.Stands.{reads-laid, FitBox, stands-here}
+use Rattle.build.proofs.Fitting.{object-fits}
+use Rattle.build.proofs.Boxed.{Tight, build-tight}
+use Rattle.build.proofs.Once.{numbers, number-at, once-by}
+
+abbrev zeros : ℕ → List ℕ
+zeros n = replicate n 0
+
+length-zeros : (n : ℕ) → length (zeros n) ≡ n
+length-zeros n = length-replicate {A = ℕ} n 0
+
+-- ---- with no objects, and with some
+low-none : (n : ℕ) (m : Made) → n ≡ 0 → lowEnough n m ≡ true
+unfolding lowEnough
+low-none n m e = rw (eq-eqb n 0 e)
+
+low-some : (n : ℕ) (m : Made) → 0 < n → lowEnough n m ≡ ltb (depth (m .tree)) 64
+unfolding lowEnough
+low-some n m h = rw (ne-eqb n 0 (λ e. omega arith)) (low-depth (m .tree) 64)
+
+length-nodes : (n : ℕ) (m : Made) (nodes : List ℕ) → length (nodesWith n m nodes) ≡ length nodes
+unfolding nodesWith
+length-nodes n m nodes = either (eqb n 0)
+  where
+    either : (b : Bool) → length (cond b nodes (laid nodes 0 (encode (m .tree) 0 0))) ≡ length nodes
+    either true = refl
+    either false = length-laid nodes 0 (encode (m .tree) 0 0)
+
+module _ (w : List ℕ) (f : List Float) where
+  -- ---- the tree of a plan's objects
+  numbers-all : (P : Aabb → Type 0) → ((o : ℕ) → o < countObjects w → P (boxAt (boxesOf w f) o)) → All (λ o. P (boxAt (boxesOf w f) o)) (numbers (countObjects w))
+  numbers-all P h i l =
+      let k : i < countObjects w = omega (arith, length-from self 0 (countObjects w)) in
+      rw (number-at (countObjects w) i k) (h i k)
+
+  built-shape : Shape (numbers (countObjects w)) (builtOf w f)
+  unfolding builtOf
+  built-shape = build-shape (boxesOf w f) (numbers (countObjects w))
+
+  built-tight : Tight (boxesOf w f) (numbers (countObjects w)) (builtOf w f)
+  unfolding builtOf
+  built-tight = build-tight (boxesOf w f) (numbers (countObjects w))
+
+  -- ---- in tables of any words
+  module _ (s : SoundObjects w f) (nodes order : List ℕ) (ln : length nodes ≡ 4599) (lo : length order ≡ 256) where
+    abbrev W : List ℕ
+    W = nodesWith (countObjects w) (builtOf w f) nodes
+
+    abbrev O : List ℕ
+    O = orderWith (countObjects w) (builtOf w f) order
+
+    holds-over : 0 < countObjects w → Holds W (floatsOf W 4599) O (boxesOf w f) (builtOf w f .tree)
+    unfolding nodesWith orderWith
+    holds-over some =
+        let n = countObjects w in
+        let few : n ≤ 256 = s .counts .objects in
+        let m = builtOf w f in
+        let sh = built-shape in
+        let ti = built-tight in
+        let ne = ne-eqb n 0 (λ e. omega arith) in
+        let k = length-from self 0 n in
+        let c = box-count w f in
+        let z = sh .sized (omega arith) in
+        let es = encode (m .tree) 0 0 in
+        let ro = reads-laid order 0 (m .order) (omega (arith, perm-length (sh .once))) in
+        let fit = ti .fit (numbers-all FitBox (λ o l. rw (box-here w f o l) (object-fits w f o))) in
+        let fin = numbers-all (λ b. T (finiteBox b)) (λ o l. boxes-finite w f s o (omega arith)) in
+        rw ne (record {
+          stands = stands-here (laid nodes 0 es) 4599 (m .tree) 0 0 (omega arith) (sh .filled (omega arith)) fit
+              (reads-laid nodes 0 es (omega (arith, encode-length (m .tree) 0 0)));
+          all = omega (arith, sh .weighs);
+          once = rw c (once-by n (m .order) (laid order 0 (m .order)) (sh .once) ro);
+          boxed = ti .boxed fin (laid order 0 (m .order)) 0 ro;
+        })
+
+    low-over : lowEnough (countObjects w) (builtOf w f) ≡ true → MeetsRules W (floatsOf W 4599) O (boxesOf w f)
+    unfolding MeetsRules
+    low-over e = go (decLe 1 (countObjects w))
+      where
+        go : Dec (1 ≤ countObjects w) → (length (boxesOf w f) ≡ 0) ⊎ ((t : Tree) × Accepted W (floatsOf W 4599) O (boxesOf w f) t)
+        go (no none) = inl (omega (arith, box-count w f))
+        go (yes some) =
+            let d = ltb-true (depth (builtOf w f .tree)) 64 (sym (low-some (countObjects w) (builtOf w f) some) ∙ e) in
+            inr (builtOf w f .tree, record { holds = holds-over some; low = omega arith })
+
+    deep-over : lowEnough (countObjects w) (builtOf w f) ≡ false
+        → Holds W (floatsOf W 4599) O (boxesOf w f) (builtOf w f .tree) × (63 < depth (builtOf w f .tree))
+    deep-over e = go (decLe 1 (countObjects w))
+      where
+        go : Dec (1 ≤ countObjects w) → Holds W (floatsOf W 4599) O (boxesOf w f) (builtOf w f .tree) × (63 < depth (builtOf w f .tree))
+        go (no none) = absurd (true≢false (sym (low-none (countObjects w) (builtOf w f) (omega arith)) ∙ e))
+        go (yes some) =
+            let d = ltb-false (depth (builtOf w f .tree)) 64 (sym (low-some (countObjects w) (builtOf w f) some) ∙ e) in
+            (holds-over some, omega arith)
+
+    standing-over : lowEnough (countObjects w) (builtOf w f) ≡ true → standingNumber W (floatsOf W 4599) O (boxesOf w f) ≡ 0
+    standing-over e =
+        standing-exact W (floatsOf W 4599) O (boxesOf w f) (length-nodes (countObjects w) (builtOf w f) nodes ∙ ln)
+        (omega (arith, box-count w f, s .counts .objects)) .1 (low-over e)
+
+  -- ---- in tables of zeros
+  abbrev pub builtNodes : List ℕ
+  builtNodes = nodesWith (countObjects w) (builtOf w f) (replicate 4599 0)
+
+  abbrev pub builtOrder : List ℕ
+  builtOrder = orderWith (countObjects w) (builtOf w f) (replicate 256 0)
+
+  module _ (s : SoundObjects w f) where
+    pub built-holds : 0 < countObjects w → Holds builtNodes (floatsOf builtNodes 4599) builtOrder (boxesOf w f) (builtOf w f .tree)
+    built-holds = holds-over s (zeros 4599) (zeros 256) (length-zeros 4599) (length-zeros 256)
+
+    pub built-low : lowEnough (countObjects w) (builtOf w f) ≡ true → MeetsRules builtNodes (floatsOf builtNodes 4599) builtOrder (boxesOf w f)
+    built-low = low-over s (zeros 4599) (zeros 256) (length-zeros 4599) (length-zeros 256)
+
+    pub built-standing : lowEnough (countObjects w) (builtOf w f) ≡ true → standingNumber builtNodes (floatsOf builtNodes 4599) builtOrder (boxesOf w f) ≡ 0
+    built-standing = standing-over s (zeros 4599) (zeros 256) (length-zeros 4599) (length-zeros 256)
+
+    pub built-deep : lowEnough (countObjects w) (builtOf w f) ≡ false
+        → Holds builtNodes (floatsOf builtNodes 4599) builtOrder (boxesOf w f) (builtOf w f .tree) × (63 < depth (builtOf w f .tree))
+    built-deep = deep-over s (zeros 4599) (zeros 256) (length-zeros 4599) (length-zeros 256)
+
+  pub built-size : countObjects w ≤ 256 → sizeOf (countObjects w) (builtOf w f) ≤ 511
+  unfolding sizeOf
+  built-size few = go (decLe 1 (countObjects w))
+    where
+      go : Dec (1 ≤ countObjects w) → cond (eqb (countObjects w) 0) 0 (size (builtOf w f .tree)) ≤ 511
+      go (no none) = rw (eq-eqb (countObjects w) 0 (omega arith)) (omega arith)
+      go (yes some) =
+          let k = length-from self 0 (countObjects w) in
+          rw (ne-eqb (countObjects w) 0 (λ e. omega arith)) (omega (arith, built-shape .sized (omega arith)))
