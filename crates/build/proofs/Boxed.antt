@@ -13,10 +13,10 @@ use Rattle.boxes.proofs.Laws.{StandIn, hull-whole, hull-holds, hull-of-some}
 use Rattle.tree.specs.Rules.{hull, weight, Boxed}
 use Rattle.split.specs.Range.{members, spanOf}
 use Rattle.split.proofs.Perms.{All}
-use Rattle.split.proofs.Cuts.{cut-all, members-length, members-at, span-hull}
+use Rattle.split.proofs.Cuts.{members-length, members-at, span-hull}
 use Rattle.build.specs.Build.{Made, leafOf, joined, buildOf}
-use Rattle.build.proofs.Fuel.{stopsAt, cutAt, leftPart, rightPart, build-each}
-use Rattle.build.proofs.Same.{all-take, all-drop}
+use Rattle.build.proofs.Fuel.{stopsAt, leftPart, rightPart, build-each}
+use Rattle.build.proofs.Same.{left-all, right-all}
 use Rattle.build.proofs.Stands.{Reads, reads-left, reads-right, FitBox, FitTree}
 use Rattle.build.proofs.Fitting.{hull-fits}
 
@@ -27,31 +27,18 @@ module _ (bs : List Aabb) where
       let k : i < length os = omega (arith, members-length bs os) in
       subst P (sym (members-at bs os i k)) (h i k)
 
-  module _ (os : List ℕ) where
-    abbrev pub Of : ℕ → Type 0
-    Of o = (j : ℕ) × (j < length os) × (o ≡ getD os j 0)
+  -- a member of the range
+  abbrev Of : List ℕ → ℕ → Type 0
+  Of os o = (j : ℕ) × (j < length os) × (o ≡ getD os j 0)
 
-    of-all : All Of os
-    of-all i l = (i, l, refl)
+  of-all : (os : List ℕ) → All (Of os) os
+  of-all os i l = (i, l, refl)
 
-    cuts-all : All Of (cutAt bs os .order)
-    cuts-all = cut-all bs os (spanOf bs os .centres) Of of-all
-
-    left-of : All Of (leftPart bs os)
-    left-of = all-take Of (cutAt bs os .mid) (cutAt bs os .order) cuts-all
-
-    right-of : All Of (rightPart bs os)
-    right-of = all-drop Of (cutAt bs os .mid) (cutAt bs os .order) cuts-all
-
-    -- what holds of all members holds of all of a part
-    of-part : (P : ℕ → Type 0) (xs : List ℕ) → All Of xs → All P os → All P xs
-    of-part P xs h k i l = let j = h i l in subst P (sym (j .2)) (k (j .0) (j .1))
-
-    stand-in : (xs : List ℕ) → All Of xs → StandIn (members bs xs) (members bs os)
-    stand-in xs h i l =
-        let k : i < length xs = omega (arith, members-length bs xs) in
-        let j = h i k in
-        (j .0, omega (arith, members-length bs os, j .1), members-at bs xs i k ∙ ap (boxAt bs) (j .2) ∙ sym (members-at bs os (j .0) (j .1)))
+  stand-in : (os xs : List ℕ) → All (Of os) xs → StandIn (members bs xs) (members bs os)
+  stand-in os xs h i l =
+      let k : i < length xs = omega (arith, members-length bs xs) in
+      let j = h i k in
+      (j .0, omega (arith, members-length bs os, j .1), members-at bs xs i k ∙ ap (boxAt bs) (j .2) ∙ sym (members-at bs os (j .0) (j .1)))
 
   -- ---- what is built of a range
   abbrev pub Finite : ℕ → Type 0
@@ -105,17 +92,16 @@ module _ (bs : List Aabb) where
       record {
         around = span-hull bs os;
         weighs = omega (arith, a .weighs, b .weighs, length-append (l .order) (r .order));
-        fit = λ h. (
-          span-fits os h,
-          a .fit (of-part os Fit (leftPart bs os) (left-of os) h),
-          b .fit (of-part os Fit (rightPart bs os) (right-of os) h),
-        );
+        fit = λ h. (span-fits os h, a .fit (left-all bs os Fit h), b .fit (right-all bs os Fit h));
         boxed = λ h o s q. (
           span-finite os h,
-          (part-inside os (leftPart bs os) (hull (l .tree)) (left-of os) (a .around) h, part-inside os (rightPart bs os) (hull (r .tree)) (right-of os) (b .around) h),
           (
-            a .boxed (of-part os Finite (leftPart bs os) (left-of os) h) o s (reads-left o s (l .order) (r .order) q),
-            b .boxed (of-part os Finite (rightPart bs os) (right-of os) h) o (s + weight (l .tree))
+            part-inside os (leftPart bs os) (hull (l .tree)) (left-all bs os (Of os) (of-all os)) (a .around) h,
+            part-inside os (rightPart bs os) (hull (r .tree)) (right-all bs os (Of os) (of-all os)) (b .around) h,
+          ),
+          (
+            a .boxed (left-all bs os Finite h) o s (reads-left o s (l .order) (r .order) q),
+            b .boxed (right-all bs os Finite h) o (s + weight (l .tree))
                 (reads-right o s (l .order) (r .order) (s + weight (l .tree)) (omega (arith, a .weighs)) q),
           ),
         );

@@ -72,82 +72,70 @@ module _ (w : List ℕ) (f : List Float) where
   built-tight = build-tight (boxesOf w f) (numbers (countObjects w))
 
   -- ---- in tables of any words
-  module _ (s : SoundObjects w f) (nodes order : List ℕ) (ln : length nodes ≡ 4599) (lo : length order ≡ 256) where
+  module _ (s : SoundObjects w f) (nodes order : List ℕ) (ln : length nodes ≡ 4599) (lo : length order ≡ 256) (some : 0 < countObjects w) where
     abbrev W : List ℕ
     W = nodesWith (countObjects w) (builtOf w f) nodes
 
-    abbrev O : List ℕ
-    O = orderWith (countObjects w) (builtOf w f) order
-
-    holds-over : 0 < countObjects w → Holds W (floatsOf W 4599) O (boxesOf w f) (builtOf w f .tree)
+    holds-over : Holds W (floatsOf W 4599) (orderWith (countObjects w) (builtOf w f) order) (boxesOf w f) (builtOf w f .tree)
     unfolding nodesWith orderWith
-    holds-over some =
-        let n = countObjects w in
-        let few : n ≤ 256 = s .counts .objects in
-        let m = builtOf w f in
-        let sh = built-shape in
-        let ti = built-tight in
-        let ne = ne-eqb n 0 (λ e. omega arith) in
-        let k = length-from self 0 n in
+    holds-over =
+        let few : countObjects w ≤ 256 = s .counts .objects in
+        let k = length-from self 0 (countObjects w) in
         let c = box-count w f in
-        let z = sh .sized (omega arith) in
-        let es = encode (m .tree) 0 0 in
-        let ro = reads-laid order 0 (m .order) (omega (arith, perm-length (sh .once))) in
-        let fit = ti .fit (numbers-all FitBox (λ o l. rw (box-here w f o l) (object-fits w f o))) in
-        let fin = numbers-all (λ b. T (finiteBox b)) (λ o l. boxes-finite w f s o (omega arith)) in
-        rw ne (record {
-          stands = stands-here (laid nodes 0 es) 4599 (m .tree) 0 0 (omega arith) (sh .filled (omega arith)) fit
-              (reads-laid nodes 0 es (omega (arith, encode-length (m .tree) 0 0)));
-          all = omega (arith, sh .weighs);
-          once = rw c (once-by n (m .order) (laid order 0 (m .order)) (sh .once) ro);
-          boxed = ti .boxed fin (laid order 0 (m .order)) 0 ro;
+        let t = builtOf w f .tree in
+        let os = builtOf w f .order in
+        let z = built-shape .sized (omega arith) in
+        let reads = reads-laid order 0 os (omega (arith, perm-length (built-shape .once))) in
+        let fit = built-tight .fit (numbers-all FitBox (λ o l. rw (box-here w f o l) (object-fits w f o))) in
+        let finite = numbers-all (λ b. T (finiteBox b)) (λ o l. boxes-finite w f s o (omega arith)) in
+        rw (ne-eqb (countObjects w) 0 (λ e. omega arith)) (record {
+          stands = stands-here (laid nodes 0 (encode t 0 0)) 4599 t 0 0 (omega arith) (built-shape .filled (omega arith)) fit
+              (reads-laid nodes 0 (encode t 0 0) (omega (arith, encode-length t 0 0)));
+          all = omega (arith, built-shape .weighs);
+          once = rw c (once-by (countObjects w) os (laid order 0 os) (built-shape .once) reads);
+          boxed = built-tight .boxed finite (laid order 0 os) 0 reads;
         })
 
-    low-over : lowEnough (countObjects w) (builtOf w f) ≡ true → MeetsRules W (floatsOf W 4599) O (boxesOf w f)
+  -- ---- in tables of zeros
+  abbrev pub nodesBuilt : List ℕ
+  nodesBuilt = nodesWith (countObjects w) (builtOf w f) (replicate 4599 0)
+
+  abbrev pub floatsBuilt : List Float
+  floatsBuilt = floatsOf nodesBuilt 4599
+
+  abbrev pub orderBuilt : List ℕ
+  orderBuilt = orderWith (countObjects w) (builtOf w f) (replicate 256 0)
+
+  module _ (s : SoundObjects w f) where
+    pub built-holds : 0 < countObjects w → Holds nodesBuilt floatsBuilt orderBuilt (boxesOf w f) (builtOf w f .tree)
+    built-holds = holds-over s (zeros 4599) (zeros 256) (length-zeros 4599) (length-zeros 256)
+
+    pub built-low : lowEnough (countObjects w) (builtOf w f) ≡ true → MeetsRules nodesBuilt floatsBuilt orderBuilt (boxesOf w f)
     unfolding MeetsRules
-    low-over e = go (decLe 1 (countObjects w))
+    built-low e = go (decLe 1 (countObjects w))
       where
-        go : Dec (1 ≤ countObjects w) → (length (boxesOf w f) ≡ 0) ⊎ ((t : Tree) × Accepted W (floatsOf W 4599) O (boxesOf w f) t)
+        go : Dec (1 ≤ countObjects w) → (length (boxesOf w f) ≡ 0) ⊎ ((t : Tree) × Accepted nodesBuilt floatsBuilt orderBuilt (boxesOf w f) t)
         go (no none) = inl (omega (arith, box-count w f))
         go (yes some) =
             let d = ltb-true (depth (builtOf w f .tree)) 64 (sym (low-some (countObjects w) (builtOf w f) some) ∙ e) in
-            inr (builtOf w f .tree, record { holds = holds-over some; low = omega arith })
+            inr (builtOf w f .tree, record { holds = built-holds some; low = omega arith })
 
-    deep-over : lowEnough (countObjects w) (builtOf w f) ≡ false
-        → Holds W (floatsOf W 4599) O (boxesOf w f) (builtOf w f .tree) × (63 < depth (builtOf w f .tree))
-    deep-over e = go (decLe 1 (countObjects w))
+    pub built-standing : lowEnough (countObjects w) (builtOf w f) ≡ true → standingNumber nodesBuilt floatsBuilt orderBuilt (boxesOf w f) ≡ 0
+    built-standing e =
+        let n = length-nodes (countObjects w) (builtOf w f) (zeros 4599) ∙ length-zeros 4599 in
+        let few : length (boxesOf w f) ≤ 256 = omega (arith, box-count w f, s .counts .objects) in
+        standing-exact nodesBuilt floatsBuilt orderBuilt (boxesOf w f) n few .1 (built-low e)
+
+    -- turned down for depth only
+    pub built-deep : lowEnough (countObjects w) (builtOf w f) ≡ false
+        → Holds nodesBuilt floatsBuilt orderBuilt (boxesOf w f) (builtOf w f .tree) × (63 < depth (builtOf w f .tree))
+    built-deep e = go (decLe 1 (countObjects w))
       where
-        go : Dec (1 ≤ countObjects w) → Holds W (floatsOf W 4599) O (boxesOf w f) (builtOf w f .tree) × (63 < depth (builtOf w f .tree))
+        go : Dec (1 ≤ countObjects w) → Holds nodesBuilt floatsBuilt orderBuilt (boxesOf w f) (builtOf w f .tree) × (63 < depth (builtOf w f .tree))
         go (no none) = absurd (true≢false (sym (low-none (countObjects w) (builtOf w f) (omega arith)) ∙ e))
         go (yes some) =
             let d = ltb-false (depth (builtOf w f .tree)) 64 (sym (low-some (countObjects w) (builtOf w f) some) ∙ e) in
-            (holds-over some, omega arith)
-
-    standing-over : lowEnough (countObjects w) (builtOf w f) ≡ true → standingNumber W (floatsOf W 4599) O (boxesOf w f) ≡ 0
-    standing-over e =
-        standing-exact W (floatsOf W 4599) O (boxesOf w f) (length-nodes (countObjects w) (builtOf w f) nodes ∙ ln)
-        (omega (arith, box-count w f, s .counts .objects)) .1 (low-over e)
-
-  -- ---- in tables of zeros
-  abbrev pub builtNodes : List ℕ
-  builtNodes = nodesWith (countObjects w) (builtOf w f) (replicate 4599 0)
-
-  abbrev pub builtOrder : List ℕ
-  builtOrder = orderWith (countObjects w) (builtOf w f) (replicate 256 0)
-
-  module _ (s : SoundObjects w f) where
-    pub built-holds : 0 < countObjects w → Holds builtNodes (floatsOf builtNodes 4599) builtOrder (boxesOf w f) (builtOf w f .tree)
-    built-holds = holds-over s (zeros 4599) (zeros 256) (length-zeros 4599) (length-zeros 256)
-
-    pub built-low : lowEnough (countObjects w) (builtOf w f) ≡ true → MeetsRules builtNodes (floatsOf builtNodes 4599) builtOrder (boxesOf w f)
-    built-low = low-over s (zeros 4599) (zeros 256) (length-zeros 4599) (length-zeros 256)
-
-    pub built-standing : lowEnough (countObjects w) (builtOf w f) ≡ true → standingNumber builtNodes (floatsOf builtNodes 4599) builtOrder (boxesOf w f) ≡ 0
-    built-standing = standing-over s (zeros 4599) (zeros 256) (length-zeros 4599) (length-zeros 256)
-
-    pub built-deep : lowEnough (countObjects w) (builtOf w f) ≡ false
-        → Holds builtNodes (floatsOf builtNodes 4599) builtOrder (boxesOf w f) (builtOf w f .tree) × (63 < depth (builtOf w f .tree))
-    built-deep = deep-over s (zeros 4599) (zeros 256) (length-zeros 4599) (length-zeros 256)
+            (built-holds some, omega arith)
 
   pub built-size : countObjects w ≤ 256 → sizeOf (countObjects w) (builtOf w f) ≤ 511
   unfolding sizeOf

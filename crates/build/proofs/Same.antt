@@ -20,13 +20,21 @@ use Rattle.tree.specs.Rules.{leaf}
 use Rattle.build.specs.Build.{Made, leafOf, joined, buildFrom, buildOf}
 use Rattle.build.proofs.Fuel.{stopsAt, cutAt, leftPart, rightPart, from-leaf, from-parts}
 
-pub all-take : (P : ℕ → Type 0) (m : ℕ) (xs : List ℕ) → All P xs → All P (take m xs)
+all-take : (P : ℕ → Type 0) (m : ℕ) (xs : List ℕ) → All P xs → All P (take m xs)
 all-take P m xs h i l =
     let q : i < m = omega (arith, length-take m xs) in
     rw (getD-take m xs i 0 q) (h i (omega (arith, length-take m xs)))
 
-pub all-drop : (P : ℕ → Type 0) (m : ℕ) (xs : List ℕ) → All P xs → All P (drop m xs)
+all-drop : (P : ℕ → Type 0) (m : ℕ) (xs : List ℕ) → All P xs → All P (drop m xs)
 all-drop P m xs h i l = rw (getD-drop m xs i 0) (h (m + i) (omega (arith, length-drop m xs)))
+
+-- what holds of all members holds of all of each part
+module _ (bs : List Aabb) (os : List ℕ) (P : ℕ → Type 0) (h : All P os) where
+  pub left-all : All P (leftPart bs os)
+  left-all = all-take P (cutAt bs os .mid) (cutAt bs os .order) (cut-all bs os (spanOf bs os .centres) P h)
+
+  pub right-all : All P (rightPart bs os)
+  right-all = all-drop P (cutAt bs os .mid) (cutAt bs os .order) (cut-all bs os (spanOf bs os .centres) P h)
 
 module _ (bs cs : List Aabb) where
   -- o has one box in both
@@ -85,10 +93,8 @@ module _ (bs cs : List Aabb) where
   from-same zero b os p h = leaf-same os h
   from-same (suc k) true os p h = from-leaf bs os (suc k) p ∙ leaf-same os h ∙ sym (from-leaf cs os (suc k) (sym (stops-same os h) ∙ p))
   from-same (suc k) false os p h =
-      let c = spanOf bs os .centres in
-      let hs = cut-all bs os c Alike h in
-      let l = from-same k _ (leftPart bs os) refl (all-take Alike (cutAt bs os .mid) (cutAt bs os .order) hs) in
-      let r = from-same k _ (rightPart bs os) refl (all-drop Alike (cutAt bs os .mid) (cutAt bs os .order) hs) in
+      let l = from-same k _ (leftPart bs os) refl (left-all bs os Alike h) in
+      let r = from-same k _ (rightPart bs os) refl (right-all bs os Alike h) in
       from-parts bs os k p
       ∙ ap (λ (s : Span). joined (s .hull) (buildFrom k bs (leftPart bs os)) (buildFrom k bs (rightPart bs os))) (span-same os h)
       ∙ ap (λ (m : Made). joined (spanOf cs os .hull) m (buildFrom k bs (rightPart bs os))) l
