@@ -1,6 +1,6 @@
 -- Whatever the builder builds meets every tree rule but perhaps depth, and its answer tells whether it meets that one. By the laws of its words, its boxes and
 -- its order. Assumes nothing.
-use Prim.Native.Nat.{ℕ, _+_, _*_, _≤_, _<_}
+use Prim.Native.Nat.{ℕ, _≤_, _<_}
 use mathlib.Core.Path.{_≡_, refl, sym, _∙_}
 use mathlib.Core.Logic.{_⊎_, inl, inr}
 use mathlib.Core.Bool.{Bool, true, false, cond, true≢false}
