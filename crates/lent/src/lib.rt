@@ -41,6 +41,18 @@ pub fn store_plan(ws: &[u32; 22288], plan: &mut [u8])
     words::store(ws, plan);
 }
 
+pub fn store_nodes(ws: &[u32; 4599], nodes: &mut [u8])
+    ensures { λ _. ⌜ now (nodes .exit) ≡ withWords (now (nodes .entry)) (now (ws .entry)) ⌝ }
+{
+    words::store(ws, nodes);
+}
+
+pub fn store_order(ws: &[u32; 256], order: &mut [u8])
+    ensures { λ _. ⌜ now (order .exit) ≡ withWords (now (order .entry)) (now (ws .entry)) ⌝ }
+{
+    words::store(ws, order);
+}
+
 // What applies before the plan's own words are judged, by the list and by the tree.
 fn list_before(plan: &[u8], tree: u32) -> u32
     ensures { λ r. ⌜ r ≡ listBefore (now (plan .entry)) tree ⌝ }

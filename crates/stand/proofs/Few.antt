@@ -1,15 +1,13 @@
--- A plan in order has at most 256 objects, so a tree that stands for them, offered or built, has at most 511 nodes. Assumes nothing.
-use Prim.Native.Nat.{ℕ, _+_, _*_, _≤_, _<_}
+-- A plan in order has at most 256 objects, so a tree offered for them that stands has at most 511 nodes. Assumes nothing.
+use Prim.Native.Nat.{ℕ, _≤_, _<_}
 use mathlib.Core.Path.{_≡_, refl, sym, _∙_, ap}
-use mathlib.Core.Bool.{Bool, true, false, cond}
+use mathlib.Core.Bool.{Bool, true, false}
 use mathlib.Core.List.{List}
 use native.Mathlib.Omega.{arith}
 use lib.ListN.{length}
 use lib.Dec.{eqb, ltb}
 use lib.Ieee.{Float}
 use borrow.Author.Tests.{eqb-false, lt-ltb}
-use Rattle.words.specs.Lists.{listFrom}
-use Rattle.words.proofs.Runs.{length-from}
 use Rattle.sdf.specs.declared.Aabb.{Aabb}
 use Rattle.scene.specs.Model.{countObjects}
 use Rattle.sound.specs.Sound.{objectsNumber}
@@ -17,15 +15,11 @@ use Rattle.sound.proofs.Exact.{objects-exact}
 use Rattle.boxes.specs.Boxes.{boxesOf}
 use Rattle.boxes.proofs.Lists.{box-count}
 use Rattle.tree.specs.Check.{judgeOf}
-use Rattle.tree.specs.Rules.{size}
 use Rattle.tree.specs.declared.Sub.{Sub}
 use Rattle.tree.specs.declared.Sub.the-variants.{Bad, Good}
 use Rattle.tree.proofs.Trees.{stands-fit}
 use Rattle.tree.proofs.Exact.{tree-told}
-use Rattle.build.specs.Build.{buildOf}
 use Rattle.build.specs.Encode.{low32}
-use Rattle.build.specs.Tables.{self, builtOf, sizeOf}
-use Rattle.build.proofs.Shape.{build-shape}
 use Rattle.stand.specs.Stand.{sizeIn, offeredSize}
 
 pub few-objects : (w : List ℕ) (f : List Float) → objectsNumber w f ≡ 0 → countObjects w ≤ 256
@@ -33,19 +27,6 @@ few-objects w f e = objects-exact w f .0 e .counts .objects
 
 pub fits-word : (x : ℕ) → x ≤ 511 → low32 x ≡ x
 fits-word x h = let l : x < 4294967296 = omega arith in rw (lt-ltb x 4294967296 l)
-
-pub built-few : (w : List ℕ) (f : List Float) → countObjects w ≤ 256 → sizeOf (countObjects w) (builtOf w f) ≤ 511
-unfolding sizeOf builtOf
-built-few w f h = go (eqb (countObjects w) 0) refl
-  where
-    go : (b : Bool) → eqb (countObjects w) 0 ≡ b → cond b 0 (size (buildOf (boxesOf w f) (listFrom self 0 (countObjects w)) .tree)) ≤ 511
-    go true e = omega arith
-    go false e =
-        let l = length-from self 0 (countObjects w) in
-        let s = build-shape (boxesOf w f) (listFrom self 0 (countObjects w)) .sized in
-        let n = eqb-false (countObjects w) 0 e in
-        let some : 0 < length (listFrom self 0 (countObjects w)) = omega (arith, l, n) in
-        omega (arith, l, s some)
 
 judge-none : (nw : List ℕ) (nf : List Float) (o : List ℕ) (bs : List Aabb) → eqb (length bs) 0 ≡ true → judgeOf 64 nw nf o bs ≡ Good 0 0
 unfolding judgeOf

@@ -1,3 +1,4 @@
 pub mod Few
 pub mod Kept
 pub mod Raises
+pub mod Lent

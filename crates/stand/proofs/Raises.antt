@@ -17,10 +17,10 @@ use Rattle.tree.specs.Check.{judgeOf, offeredNumber}
 use Rattle.build.specs.declared.Built.{Built}
 use Rattle.build.specs.Encode.{low32}
 use Rattle.build.specs.Tables.{builtOf, sizeOf, lowEnough, nodesWith, orderWith, Builds}
-use Rattle.build.proofs.Laid.{length-laid}
+use Rattle.build.proofs.Meets.{built-size}
 use Rattle.stand.specs.declared.Raised.{Raised}
 use Rattle.stand.specs.Stand.{noNodes, noOrder, buildNumber, builtAnswer, builtNodes, builtOrder, offerNumber, sizeIn, offeredSize, offeredAnswer, kept}
-use Rattle.stand.proofs.Few.{few-objects, fits-word, built-few, offered-few}
+use Rattle.stand.proofs.Few.{few-objects, fits-word, offered-few}
 
 -- a table all of whose words became 0
 kept-none : (w : List ℕ) (n : ℕ) → length w ≡ n → kept w 0 ≡ replicate n 0
@@ -59,7 +59,7 @@ module _ (before : ℕ) (w : List ℕ) (f : List Float) where
   raises-low nw ow b nw′ ow′ k n en e B l ek z y =
       let B = B (few (sym en ∙ e)) in
       let num = number-low (sym en ∙ e) (sym (B .low-is) ∙ l) in
-      let size : k ≡ sizeOf (countObjects w) (builtOf w f) = ek ∙ ap low32 (B .next-is) ∙ fits-word _ (built-few w f (few (sym en ∙ e))) in
+      let size : k ≡ sizeOf (countObjects w) (builtOf w f) = ek ∙ ap low32 (B .next-is) ∙ fits-word _ (built-size w f (few (sym en ∙ e))) in
       (rw (num, size), rw (num, B .nodes-are, z), rw (num, B .order-is, y))
 
   -- too deep: both tables are zeroed again

@@ -147,8 +147,8 @@ pub fn build(plan: &[u8], nodes: &mut [u8], order: &mut [u8], out: usize) -> Rai
     let before = stand_before(plan, nodes.len(), order.len(), out);
     let r = raise_built(before, &ws, &fs, &mut nw, &mut ow);
     if r.stores {
-        words::store(&nw, nodes);
-        words::store(&ow, order);
+        lent::store_nodes(&nw, nodes);
+        lent::store_order(&ow, order);
     }
     r
 }
@@ -186,8 +186,8 @@ pub fn offer(
     if r.stores {
         keep(&mut nw, 9 * (r.nodes as usize));
         keep(&mut ow, tree::object_count(&ws) as usize);
-        words::store(&nw, nodes);
-        words::store(&ow, order);
+        lent::store_nodes(&nw, nodes);
+        lent::store_order(&ow, order);
     }
     r
 }

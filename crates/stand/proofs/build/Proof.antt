@@ -1,73 +1,49 @@
+-- `stand::build` meets its contract: what was loaded is what the bytes stand for. Assumes nothing.
+use mathlib.Core.Path.{refl}
+use lib.Ieee.{binary32, ofBits}
+use Rattle.stand.proofs.Lent.{build-stores, build-keeps}
 use borrow.Author.Needs.{needs}
 use Rattle.stand.proofs.build.Statement.{statement}
 use Rattle.stand.proofs.build.Tie as tie
-use Rattle.stand.proofs.build.Reads as reads
-use Rattle.stand.proofs.build.Lts as lts
-use Rattle.lent.proofs.load_plan.Reads as load-plan-reads
-use Rattle.stand.proofs.raise_built.Reads as raise-built-reads
-use Rattle.stand.proofs.stand_before.Reads as stand-before-reads
-use Rattle.words.proofs.floats.Reads as floats-reads
-use Rattle.words.proofs.store.Reads as store-reads
 
--- src/lib.rt:142:27
 slice-aggregate-load-plan : tie.Need-slice-aggregate-load-plan
 slice-aggregate-load-plan c = search needs
 
--- src/lib.rt:142:5
 load-plan-requires : tie.Need-load-plan-requires
 load-plan-requires c κs = search needs
 
--- src/lib.rt:144:19
 slice-aggregate-floats : tie.Need-slice-aggregate-floats
 slice-aggregate-floats c = search needs
 
--- src/lib.rt:144:24
 slice-aggregate-floats-2 : tie.Need-slice-aggregate-floats-2
 slice-aggregate-floats-2 c = search needs
 
--- src/lib.rt:144:5
 floats-requires : tie.Need-floats-requires
 floats-requires c κs = search needs
 
--- src/lib.rt:147:9
 stand-before-requires : tie.Need-stand-before-requires
 stand-before-requires c κs = search needs
 
--- src/lib.rt:148:9
 raise-built-requires : tie.Need-raise-built-requires
 raise-built-requires c κs = search needs
 
--- src/lib.rt:150:22
-slice-aggregate-store : tie.Need-slice-aggregate-store
-slice-aggregate-store c = ?
+store-nodes-requires : tie.Need-store-nodes-requires
+store-nodes-requires c κs = search needs
 
--- src/lib.rt:150:9
-store-requires : tie.Need-store-requires
-store-requires c κs = search needs
+store-order-requires : tie.Need-store-order-requires
+store-order-requires c κs = search needs
 
--- src/lib.rt:151:22
-slice-aggregate-store-2 : tie.Need-slice-aggregate-store-2
-slice-aggregate-store-2 c = ?
-
--- src/lib.rt:151:9
-store-requires-2 : tie.Need-store-requires-2
-store-requires-2 c κs = search needs
-
--- src/lib.rt:138:1
 same-length : tie.Need-same-length
 same-length c = search needs
 
--- src/lib.rt:138:1
 same-length-2 : tie.Need-same-length-2
 same-length-2 c = search needs
 
--- src/lib.rt:138:1
 returns : tie.Need-returns
-returns c = ?
+returns c = build-stores (c .before .before .before .before .before .before .before .before .before .before .before .before .before .before .before .before .before .before .before .before .before .before .before .before .before .before .before .args .plan .now) (c .before .before .before .before .before .before .before .before .before .before .before .before .before .before .before .before .before .before .before .before .before .before .before .before .before .before .before .args .nodes .now) (c .before .before .before .before .before .before .before .before .before .before .before .before .before .before .before .before .before .before .before .before .before .before .before .before .before .before .before .args .order .now) _ (ofBits binary32 0) _ _ _ _ _ _ (c .before .before .before .before .before .before .before .before .before .before .before .before .before .before .before .before .before .before .before .before .before .before .load-plan .ensures) (c .before .before .before .before .before .before .before .before .before .before .before .before .before .before .before .before .before .before .floats .ensures) (c .before .before .before .before .before .before .before .before .before .before .before .before .before .before .before .before .stand-before .ensures) (c .before .before .before .before .before .before .before .before .before .before .before .raise-built .ensures refl refl) _ _ (c .before .before .before .before .before .before .before .before .before .before .if1 .taken) (c .before .before .before .before .before .before .before .store-nodes .ensures) (c .before .before .store-order .ensures)
 
--- src/lib.rt:138:1
 returns-2 : tie.Need-returns-2
-returns-2 c = ?
+returns-2 c = build-keeps (c .before .before .before .before .before .before .before .before .before .before .before .before .before .before .before .before .before .args .plan .now) (c .before .before .before .before .before .before .before .before .before .before .before .before .before .before .before .before .before .args .nodes .now) (c .before .before .before .before .before .before .before .before .before .before .before .before .before .before .before .before .before .args .order .now) _ (ofBits binary32 0) _ _ _ _ _ _ (c .before .before .before .before .before .before .before .before .before .before .before .before .load-plan .ensures) (c .before .before .before .before .before .before .before .before .floats .ensures) (c .before .before .before .before .before .before .stand-before .ensures) (c .before .raise-built .ensures refl refl) (c .if1 .left)
 
 pub build-spec : {M : Type 1} → statement M
 build-spec =
@@ -80,10 +56,8 @@ build-spec =
     floats-requires
     stand-before-requires
     raise-built-requires
-    slice-aggregate-store
-    store-requires
-    slice-aggregate-store-2
-    store-requires-2
+    store-nodes-requires
+    store-order-requires
     same-length
     same-length-2
     returns

@@ -7,8 +7,6 @@ use Rattle.stand.specs.Stand.{kept}
 use Rattle.stand.proofs.Kept.{kept-more, kept-all}
 use Rattle.stand.proofs.keep.Statement.{statement}
 use Rattle.stand.proofs.keep.Tie as tie
-use Rattle.stand.proofs.keep.Reads as reads
-use Rattle.stand.proofs.keep.Lts as lts
 
 abbrev Inv-loop : tie.InvT-loop
 Inv-loop ws₀ k i₀ ws i = (length ws ≡ length ws₀) × (kept ws i ≡ kept ws₀ k)
@@ -32,7 +30,7 @@ loop-less : tie.Need-loop-less Inv-loop μ-loop
 loop-less c = search needs
 
 loop-again : tie.Need-loop-again Inv-loop μ-loop
-loop-again c = let l = c .before .loop in (length-set _ _ _ ∙ l .inv .0, kept-more _ _ (c .loop-test .taken) ∙ l .inv .1)
+loop-again c = let l = c .before .loop in (simp length-set (l .inv .0), kept-more _ _ (c .loop-test .taken) ∙ l .inv .1)
 
 same-length : tie.Need-same-length Inv-loop μ-loop
 same-length c = search needs

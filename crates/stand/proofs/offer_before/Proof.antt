@@ -3,12 +3,6 @@ use Rattle.stand.specs.Stand.{offerBefore}
 use borrow.Author.Needs.{needs}
 use Rattle.stand.proofs.offer_before.Statement.{statement}
 use Rattle.stand.proofs.offer_before.Tie as tie
-use Rattle.stand.proofs.offer_before.Reads as reads
-use Rattle.stand.proofs.offer_before.Lts as lts
-use Rattle.rules.proofs.both.Reads as both-reads
-use Rattle.rules.proofs.lower.Reads as lower-reads
-use Rattle.rules.proofs.unless.Reads as unless-reads
-use Rattle.stand.proofs.stand_before.Reads as stand-before-reads
 
 stand-before-requires : tie.Need-stand-before-requires
 stand-before-requires c κs = search needs

@@ -4,9 +4,6 @@ use Rattle.stand.specs.Stand.{raisedReply}
 use borrow.Author.Needs.{needs}
 use Rattle.stand.proofs.raised_reply.Statement.{statement}
 use Rattle.stand.proofs.raised_reply.Tie as tie
-use Rattle.stand.proofs.raised_reply.Reads as reads
-use Rattle.stand.proofs.raised_reply.Lts as lts
-use Rattle.reply.proofs.refused.Reads as refused-reads
 
 returns : tie.Need-returns
 unfolding raisedReply

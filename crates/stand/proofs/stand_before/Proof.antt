@@ -3,11 +3,6 @@ use Rattle.stand.specs.Stand.{standBefore}
 use borrow.Author.Needs.{needs}
 use Rattle.stand.proofs.stand_before.Statement.{statement}
 use Rattle.stand.proofs.stand_before.Tie as tie
-use Rattle.stand.proofs.stand_before.Reads as reads
-use Rattle.stand.proofs.stand_before.Lts as lts
-use Rattle.rules.proofs.both.Reads as both-reads
-use Rattle.rules.proofs.lower.Reads as lower-reads
-use Rattle.rules.proofs.unless.Reads as unless-reads
 
 unless-requires : tie.Need-unless-requires
 unless-requires c κs = search needs
