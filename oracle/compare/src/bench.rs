@@ -132,12 +132,12 @@ fn ours_one(call: Call) -> impl Fn(&f32) -> [u8; OUT_BYTES] {
 
 fn ours_dist(input: &Input) -> [u8; OUT_BYTES] {
     let mut out = [0; OUT_BYTES];
-    viewer::prim_dist(&input.args, &mut out);
+    viewer::send(Call::PrimDist, &input.args, &mut out);
     out
 }
 
 fn ours_bounds(input: &Input) -> [u8; OUT_BYTES] {
     let mut out = [0; OUT_BYTES];
-    viewer::prim_bounds(&input.args, &mut out);
+    viewer::send(Call::PrimBounds, &input.args, &mut out);
     out
 }

@@ -14,6 +14,8 @@ mod plan;
 mod rng;
 mod store;
 mod sweep;
+#[cfg(feature = "plan")]
+mod tree;
 mod viewer;
 mod words;
 
@@ -25,6 +27,7 @@ compare gate          the comparisons of every change, some seconds
 compare sweep root    every f32 from 0 to f32::MAX
 compare sweep acos    every f32 from -1 to 1
 compare plan [PART]   calls on plans, at length (with the feature `plan`)
+compare tree [PART]   trees built, offered and searched, at length (likewise)
 compare bench         times, ours beside the Rust's
 compare store FILE    writes the answers that are replayed without Rust";
 
@@ -38,6 +41,10 @@ fn main() -> ExitCode {
         ["plan"] => plan::run(),
         #[cfg(feature = "plan")]
         ["plan", part] => plan::run_one(part),
+        #[cfg(feature = "plan")]
+        ["tree"] => tree::run(),
+        #[cfg(feature = "plan")]
+        ["tree", part] => tree::run_one(part),
         ["bench"] => bench::run(),
         ["store", file] => store::run(file),
         _ => Err(format!("usage:\n{USAGE}")),

@@ -2,40 +2,36 @@
 
 use crate::call::Call;
 
-unsafe extern "C" {
-    fn viewer_root(args: *const u8, args_len: usize, out: *mut u8, out_len: usize) -> u32;
-    fn viewer_acos(args: *const u8, args_len: usize, out: *mut u8, out_len: usize) -> u32;
-    fn viewer_prim_dist(args: *const u8, args_len: usize, out: *mut u8, out_len: usize) -> u32;
-    fn viewer_prim_bounds(args: *const u8, args_len: usize, out: *mut u8, out_len: usize) -> u32;
-}
-
-#[inline]
-pub fn root(args: &[u8], out: &mut [u8]) -> u32 {
-    unsafe { viewer_root(args.as_ptr(), args.len(), out.as_mut_ptr(), out.len()) }
-}
-
-#[inline]
-pub fn acos(args: &[u8], out: &mut [u8]) -> u32 {
-    unsafe { viewer_acos(args.as_ptr(), args.len(), out.as_mut_ptr(), out.len()) }
-}
-
-#[inline]
-pub fn prim_dist(args: &[u8], out: &mut [u8]) -> u32 {
-    unsafe { viewer_prim_dist(args.as_ptr(), args.len(), out.as_mut_ptr(), out.len()) }
-}
-
-#[inline]
-pub fn prim_bounds(args: &[u8], out: &mut [u8]) -> u32 {
-    unsafe { viewer_prim_bounds(args.as_ptr(), args.len(), out.as_mut_ptr(), out.len()) }
+/// Declares one call of the library and makes it. Before each argument stands what it is: `lent`
+/// a slice that is read, `mut` one that may be written, `word` a number.
+macro_rules! call {
+    ($name:ident($($args:tt)*)) => {
+        call!(@ $name [] [] $($args)*,)
+    };
+    (@ $name:ident [$($c:ty)*] [$($given:expr,)*] lent $slice:ident, $($rest:tt)*) => {
+        call!(@ $name [$($c)* *const u8 usize] [$($given,)* $slice.as_ptr(), $slice.len(),] $($rest)*)
+    };
+    (@ $name:ident [$($c:ty)*] [$($given:expr,)*] mut $slice:ident, $($rest:tt)*) => {
+        call!(@ $name [$($c)* *mut u8 usize] [$($given,)* $slice.as_mut_ptr(), $slice.len(),] $($rest)*)
+    };
+    (@ $name:ident [$($c:ty)*] [$($given:expr,)*] word $word:ident, $($rest:tt)*) => {
+        call!(@ $name [$($c)* u32] [$($given,)* $word,] $($rest)*)
+    };
+    (@ $name:ident [$($c:ty)*] [$($given:expr,)*]) => {{
+        unsafe extern "C" {
+            fn $name($(_: $c),*) -> u32;
+        }
+        unsafe { $name($($given),*) }
+    }};
 }
 
 #[inline]
 pub fn send(call: Call, args: &[u8], out: &mut [u8]) -> u32 {
     match call {
-        Call::Root => root(args, out),
-        Call::Acos => acos(args, out),
-        Call::PrimDist => prim_dist(args, out),
-        Call::PrimBounds => prim_bounds(args, out),
+        Call::Root => call!(viewer_root(lent args, mut out)),
+        Call::Acos => call!(viewer_acos(lent args, mut out)),
+        Call::PrimDist => call!(viewer_prim_dist(lent args, mut out)),
+        Call::PrimBounds => call!(viewer_prim_bounds(lent args, mut out)),
     }
 }
 
@@ -44,143 +40,33 @@ pub fn send(call: Call, args: &[u8], out: &mut [u8]) -> u32 {
 pub mod plan {
     use crate::plan::{Lent, PlanCall};
 
-    unsafe extern "C" {
-        fn viewer_add_material(
-            plan: *mut u8,
-            plan_len: usize,
-            args: *const u8,
-            args_len: usize,
-            out: *mut u8,
-            out_len: usize,
-        ) -> u32;
-        fn viewer_add_plane(
-            plan: *mut u8,
-            plan_len: usize,
-            args: *const u8,
-            args_len: usize,
-            out: *mut u8,
-            out_len: usize,
-        ) -> u32;
-        fn viewer_add_object(
-            plan: *mut u8,
-            plan_len: usize,
-            nodes: *mut u8,
-            nodes_len: usize,
-            order: *mut u8,
-            order_len: usize,
-            args: *const u8,
-            args_len: usize,
-            out: *mut u8,
-            out_len: usize,
-        ) -> u32;
-        fn viewer_add_light(
-            plan: *mut u8,
-            plan_len: usize,
-            args: *const u8,
-            args_len: usize,
-            out: *mut u8,
-            out_len: usize,
-        ) -> u32;
-        fn viewer_query(
-            plan: *const u8,
-            plan_len: usize,
-            nodes: *const u8,
-            nodes_len: usize,
-            order: *const u8,
-            order_len: usize,
-            tree: u32,
-            args: *const u8,
-            args_len: usize,
-            out: *mut u8,
-            out_len: usize,
-        ) -> u32;
-        fn viewer_dist_mat(
-            plan: *const u8,
-            plan_len: usize,
-            nodes: *const u8,
-            nodes_len: usize,
-            order: *const u8,
-            order_len: usize,
-            tree: u32,
-            args: *const u8,
-            args_len: usize,
-            out: *mut u8,
-            out_len: usize,
-        ) -> u32;
-    }
-
     #[inline]
     pub fn send(call: PlanCall, lent: &mut Lent) -> u32 {
         let tree = lent.tree;
         let plan = lent.plan.bytes_mut();
         let nodes = lent.nodes.bytes_mut();
         let order = lent.order.bytes_mut();
+        let more_nodes = lent.offered_nodes.bytes();
+        let more_order = lent.offered_order.bytes();
         let args = lent.args.bytes();
         let out = lent.out.bytes_mut();
-        let enter = match call {
-            PlanCall::AddMaterial => viewer_add_material,
-            PlanCall::AddPlane => viewer_add_plane,
-            PlanCall::AddLight => viewer_add_light,
+        match call {
+            PlanCall::AddMaterial => call!(viewer_add_material(mut plan, lent args, mut out)),
+            PlanCall::AddPlane => call!(viewer_add_plane(mut plan, lent args, mut out)),
+            PlanCall::AddLight => call!(viewer_add_light(mut plan, lent args, mut out)),
             PlanCall::AddObject => {
-                return unsafe {
-                    viewer_add_object(
-                        plan.as_mut_ptr(),
-                        plan.len(),
-                        nodes.as_mut_ptr(),
-                        nodes.len(),
-                        order.as_mut_ptr(),
-                        order.len(),
-                        args.as_ptr(),
-                        args.len(),
-                        out.as_mut_ptr(),
-                        out.len(),
-                    )
-                }
+                call!(viewer_add_object(mut plan, mut nodes, mut order, lent args, mut out))
             }
-            PlanCall::Query | PlanCall::DistMat => {
-                return ask(call, plan, nodes, order, tree, args, out)
-            }
-        };
-        unsafe {
-            enter(
-                plan.as_mut_ptr(),
-                plan.len(),
-                args.as_ptr(),
-                args.len(),
-                out.as_mut_ptr(),
-                out.len(),
-            )
-        }
-    }
-
-    #[inline]
-    fn ask(
-        call: PlanCall,
-        plan: &[u8],
-        nodes: &[u8],
-        order: &[u8],
-        tree: u32,
-        args: &[u8],
-        out: &mut [u8],
-    ) -> u32 {
-        let ask = match call {
-            PlanCall::Query => viewer_query,
-            _ => viewer_dist_mat,
-        };
-        unsafe {
-            ask(
-                plan.as_ptr(),
-                plan.len(),
-                nodes.as_ptr(),
-                nodes.len(),
-                order.as_ptr(),
-                order.len(),
-                tree,
-                args.as_ptr(),
-                args.len(),
-                out.as_mut_ptr(),
-                out.len(),
-            )
+            PlanCall::Build => call!(viewer_build(lent plan, mut nodes, mut order, mut out)),
+            PlanCall::Offer => call!(viewer_offer(
+                lent plan, mut nodes, mut order, lent more_nodes, lent more_order, mut out
+            )),
+            PlanCall::Query => call!(viewer_query(
+                lent plan, lent nodes, lent order, word tree, lent args, mut out
+            )),
+            PlanCall::DistMat => call!(viewer_dist_mat(
+                lent plan, lent nodes, lent order, word tree, lent args, mut out
+            )),
         }
     }
 }

@@ -20,12 +20,16 @@ const PARTS: [Part; 5] = [
 ];
 
 #[cfg(feature = "plan")]
-use crate::plan::GATE as PLAN_PARTS;
+fn plan_parts() -> Vec<Part> {
+    [&crate::plan::GATE[..], &crate::tree::GATE].concat()
+}
 #[cfg(not(feature = "plan"))]
-const PLAN_PARTS: [Part; 0] = [];
+fn plan_parts() -> Vec<Part> {
+    Vec::new()
+}
 
 pub fn run() -> Result<(), String> {
-    run_parts("gate", &[&PARTS[..], &PLAN_PARTS].concat())
+    run_parts("gate", &[&PARTS[..], &plan_parts()].concat())
 }
 
 pub fn run_parts(whole: &str, parts: &[Part]) -> Result<(), String> {

@@ -8,6 +8,8 @@ pub enum PlanCall {
     AddPlane,
     AddObject,
     AddLight,
+    Build,
+    Offer,
     Query,
     DistMat,
 }
@@ -15,7 +17,16 @@ pub enum PlanCall {
 use PlanCall::*;
 
 impl PlanCall {
-    pub const ALL: [PlanCall; 6] = [AddMaterial, AddPlane, AddObject, AddLight, Query, DistMat];
+    pub const ALL: [PlanCall; 8] = [
+        AddMaterial,
+        AddPlane,
+        AddObject,
+        AddLight,
+        Build,
+        Offer,
+        Query,
+        DistMat,
+    ];
     pub const ENTRIES: [PlanCall; 4] = [AddMaterial, AddPlane, AddObject, AddLight];
     pub const ASKS: [PlanCall; 2] = [Query, DistMat];
 
@@ -25,6 +36,8 @@ impl PlanCall {
             AddPlane => "viewer_add_plane",
             AddObject => "viewer_add_object",
             AddLight => "viewer_add_light",
+            Build => "viewer_build",
+            Offer => "viewer_offer",
             Query => "viewer_query",
             DistMat => "viewer_dist_mat",
         }
@@ -37,20 +50,36 @@ impl PlanCall {
             AddPlane => Some(List::Planes),
             AddObject => Some(List::Objects),
             AddLight => Some(List::Lights),
-            Query | DistMat => None,
+            Build | Offer | Query | DistMat => None,
         }
     }
 
     pub fn asks(self) -> bool {
-        self.enters().is_none()
+        matches!(self, Query | DistMat)
     }
 
-    /// Words of `args` below which they are short, whatever stands in them.
+    /// Whether the tree's tables are lent to be written.
+    pub fn writes_tree(self) -> bool {
+        matches!(self, AddObject | Build | Offer)
+    }
+
+    /// The words `tree` with which the call can be accepted; one where it has no such word.
+    pub fn trees(self) -> &'static [u32] {
+        if self.asks() {
+            &[0, 1]
+        } else {
+            &[0]
+        }
+    }
+
+    /// Words of `args` below which they are short, whatever stands in them; 0 where the call has
+    /// no `args`.
     pub fn args_words(self) -> usize {
         match self {
             AddMaterial => MATERIAL_WORDS,
             AddPlane | AddObject => ROW,
             AddLight => LIGHT_WORDS,
+            Build | Offer => 0,
             Query => 5,
             DistMat => 3,
         }
@@ -61,7 +90,7 @@ impl PlanCall {
         match self {
             AddMaterial | AddLight => &[],
             AddPlane | AddObject | DistMat => &[List::Planes, List::Objects],
-            Query => &[List::Objects],
+            Build | Offer | Query => &[List::Objects],
         }
     }
 }

@@ -3,9 +3,10 @@
 use super::call::PlanCall;
 use super::exit;
 use super::judge;
-use super::layout::SECTIONS;
+use super::layout::{NODES_WORDS, NODE_WORDS, SECTIONS};
 use super::lent::{Lent, Table};
 use crate::check::same;
+use crate::tree::table::START;
 use crate::viewer;
 use crate::words;
 use interflect::scene::Scene;
@@ -41,13 +42,15 @@ fn compare(call: PlanCall, lent: &mut Lent, scene: Option<&Scene>) -> Result<u32
         let what = format!("sent {sent}, must send {number}");
         return Err(different(call, lent, &what));
     }
-    distance_as_float(call, &mut lent.out);
+    as_floats(call, lent);
     let tables = [
         ("out", &lent.out),
         ("plan", &lent.plan),
         ("nodes", &lent.nodes),
         ("order", &lent.order),
         ("args", &lent.args),
+        ("offered nodes", &lent.offered_nodes),
+        ("offered order", &lent.offered_order),
     ];
     for (name, table) in tables {
         if let Some(what) = wrong(name, table) {
@@ -57,12 +60,27 @@ fn compare(call: PlanCall, lent: &mut Lent, scene: Option<&Scene>) -> Result<u32
     Ok(sent)
 }
 
-/// A distance is compared as a float: zeros of both signs are equal.
-fn distance_as_float(call: PlanCall, out: &mut Table) {
-    if call.asks() && out.wrong().is_some() {
-        let (have, want) = (out.word(0), out.must_word(0));
-        if same(have, want, false) {
-            out.must_put(0, &[have]);
+/// A distance is compared as a float, and so are the corners of a tree that was built: zeros of
+/// both signs are equal.
+fn as_floats(call: PlanCall, lent: &mut Lent) {
+    if call.asks() {
+        take_zeros(&mut lent.out, 0..1);
+    }
+    if call == PlanCall::Build {
+        let corner = |i: &usize| i % NODE_WORDS < START;
+        take_zeros(&mut lent.nodes, (0..NODES_WORDS).filter(corner));
+    }
+}
+
+/// Where words differ and are equal as floats, ours are what must be.
+fn take_zeros(table: &mut Table, words: impl Iterator<Item = usize>) {
+    if table.wrong().is_none() {
+        return;
+    }
+    for i in words {
+        let (have, want) = (table.word(i), table.must_word(i));
+        if have != want && same(have, want, false) {
+            table.must_put(i, &[have]);
         }
     }
 }
@@ -108,6 +126,7 @@ fn different(call: PlanCall, lent: &Lent, what: &str) -> String {
             lent.order.len(),
             lent.tree
         ),
+        trees(call, lent),
         format!(
             "plan of {} bytes, before the call, but for records of zeros:{}",
             lent.plan.len(),
@@ -115,6 +134,23 @@ fn different(call: PlanCall, lent: &Lent, what: &str) -> String {
         ),
     ];
     lines.join("\n  ")
+}
+
+/// The tree that the call reads, in words, without the zeros at its end.
+fn trees(call: PlanCall, lent: &Lent) -> String {
+    let (nodes, order) = match call {
+        PlanCall::Offer => (&lent.offered_nodes, &lent.offered_order),
+        _ if call.asks() && lent.tree == 1 => (&lent.nodes, &lent.order),
+        _ => return "no tree is read".to_string(),
+    };
+    let mut text = format!("tree of {} and {} bytes:", nodes.len(), order.len());
+    let (nodes, order) = (nodes.before(), order.before());
+    let used = |words: &[u32]| words.iter().rposition(|&word| word != 0).map_or(0, |i| i + 1);
+    for (i, node) in nodes[..used(&nodes)].chunks(NODE_WORDS).enumerate() {
+        write!(text, "\n    node {i}: {node:08x?}").unwrap();
+    }
+    write!(text, "\n    order: {:?}", &order[..used(&order)]).unwrap();
+    text
 }
 
 /// The plan in words, without the zeros at the end of a record.

@@ -5,11 +5,11 @@ use super::call::PlanCall;
 use super::check::expect;
 use super::draw;
 use super::layout::*;
-use super::lent::Lent;
+use super::lent::{Lent, Table};
 use super::model::Plan;
 use super::sound;
 use crate::cases::limits::NOT_FINITE;
-use crate::judge::{BAD_WORD, DONE};
+use crate::judge::{BAD_WORD, DONE, NO_ROOM};
 use crate::rng::Rng;
 use crate::words;
 
@@ -21,30 +21,59 @@ pub fn run() -> Result<String, String> {
     for turn in 0..TURNS {
         for junk_in_the_plan in [false, true] {
             for call in PlanCall::ALL {
-                let mut lent = lend(&mut rng, turn, junk_in_the_plan);
-                if call.asks() {
-                    // By the list the tree's tables are not looked at.
-                    lent.nodes.resize(rng.below(NODES_BYTES + 64));
-                    lent.order.resize(rng.below(ORDER_BYTES + 64));
+                for &tree in call.trees() {
+                    let mut lent = lend(&mut rng, turn, junk_in_the_plan);
+                    lent.tree = tree;
+                    count += of_call(&mut rng, call, &mut lent)?;
                 }
-                let args = args(&mut rng, call);
-                // Where there is nothing to look at, the arguments are judged all the same.
-                for &i in judged(call) {
-                    lent.args(&args);
-                    lent.args.put(i, &NOT_FINITE[..1]);
-                    expect(call, &mut lent, BAD_WORD)?;
-                    count += 1;
-                }
-                lent.args(&args);
-                expect(call, &mut lent, DONE)?;
-                if call.asks() {
-                    nothing_found(call, &lent, &args)?;
-                }
-                count += 1;
             }
         }
     }
     Ok(format!("{count} calls"))
+}
+
+fn of_call(rng: &mut Rng, call: PlanCall, lent: &mut Lent) -> Result<usize, String> {
+    if call.asks() && lent.tree == 0 {
+        // By the list the tree's tables are not looked at.
+        lent.nodes.resize(rng.below(NODES_BYTES + 64));
+        lent.order.resize(rng.below(ORDER_BYTES + 64));
+    }
+    let args = args(rng, call);
+    // Where there is nothing to look at, the arguments are judged all the same.
+    for &i in judged(call) {
+        lent.args(&args);
+        lent.args.put(i, &NOT_FINITE[..1]);
+        expect(call, lent, BAD_WORD)?;
+    }
+    lent.args(&args);
+    let short = short_tables(rng, call, lent)?;
+    expect(call, lent, DONE)?;
+    if call.asks() {
+        nothing_found(call, lent, &args)?;
+    }
+    Ok(judged(call).len() + short + 1)
+}
+
+/// The empty tree always stands, and what is offered is not judged; but tables of trees may not be
+/// short.
+fn short_tables(rng: &mut Rng, call: PlanCall, lent: &mut Lent) -> Result<usize, String> {
+    type Pick = fn(&mut Lent) -> &mut Table;
+    let looked_at: [(Pick, usize, bool); 4] = [
+        (|lent| &mut lent.nodes, NODES_BYTES, lent.looks_at_tree(call)),
+        (|lent| &mut lent.order, ORDER_BYTES, lent.looks_at_tree(call)),
+        (|lent| &mut lent.offered_nodes, NODES_BYTES, call == PlanCall::Offer),
+        (|lent| &mut lent.offered_order, ORDER_BYTES, call == PlanCall::Offer),
+    ];
+    let mut count = 0;
+    for (pick, full, _) in looked_at.into_iter().filter(|table| table.2) {
+        let any = rng.below(full);
+        let short = rng.pick(&[full - 1, full - 4, any]);
+        pick(lent).resize(short);
+        expect(call, lent, NO_ROOM)?;
+        pick(lent).resize(full);
+        count += 1;
+    }
+    Ok(count)
 }
 
 /// One material and nothing else, so that a piece can enter.
@@ -59,8 +88,12 @@ fn lend(rng: &mut Rng, turn: usize, junk_in_the_plan: bool) -> Lent {
         lent.plan.put(4, &junk);
     }
     let junk = rng.word();
-    lent.nodes.fill(|i| (i as u32 + 1).wrapping_mul(junk) as u8);
-    lent.order.fill(|i| (i as u32 ^ junk) as u8);
+    for nodes in [&mut lent.nodes, &mut lent.offered_nodes] {
+        nodes.fill(|i| (i as u32 + 1).wrapping_mul(junk) as u8);
+    }
+    for order in [&mut lent.order, &mut lent.offered_order] {
+        order.fill(|i| (i as u32 ^ junk) as u8);
+    }
     lent
 }
 
@@ -73,7 +106,7 @@ fn args(rng: &mut Rng, call: PlanCall) -> Vec<u32> {
         args[3] = (rng.unit() * 2.0 - 1.0).to_bits();
         args[4] = rng.word();
     }
-    if !call.asks() && !call.tests().is_empty() {
+    if call.args_words() == ROW {
         args[MATERIAL] = 0;
     }
     args
@@ -84,18 +117,19 @@ fn judged(call: PlanCall) -> &'static [usize] {
     match call {
         PlanCall::AddMaterial | PlanCall::AddLight => &[0, 4],
         PlanCall::AddPlane | PlanCall::AddObject => &[BLEND, SHAPE, ROW + 1],
+        PlanCall::Build | PlanCall::Offer => &[],
         PlanCall::Query => &[0, 1, 2, 3],
         PlanCall::DistMat => &[0, 1, 2],
     }
 }
 
-/// The bound and its word come back, or `f32::MAX` and 0.
+/// The bound and its word come back, or `f32::MAX` and 0. Nothing is popped or evaluated.
 fn nothing_found(call: PlanCall, lent: &Lent, args: &[u32]) -> Result<(), String> {
     let want = match call {
-        PlanCall::Query => [args[3], args[4]],
-        _ => [f32::MAX.to_bits(), 0],
+        PlanCall::Query => [args[3], args[4], 0, 0],
+        _ => [f32::MAX.to_bits(), 0, 0, 0],
     };
-    let have = [0, 1].map(|i| lent.out.word(i));
+    let have = [0, 1, 2, 3].map(|i| lent.out.word(i));
     if have == want {
         Ok(())
     } else {

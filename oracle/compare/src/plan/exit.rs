@@ -7,6 +7,9 @@ use super::model::used;
 use super::source;
 use crate::call::{OUT_BYTES, OUT_WORDS};
 use crate::judge::DONE;
+use crate::tree::judged;
+use crate::tree::rules::{Verdict, TOO_DEEP};
+use crate::tree::table::Tables;
 use crate::words;
 use interflect::scene::Scene;
 
@@ -17,10 +20,16 @@ pub fn tell(call: PlanCall, number: u32, lent: &mut Lent, scene: Option<&Scene>)
     lent.out.begin();
     let mut out = [0; OUT_WORDS];
     if number == DONE {
-        match call.enters() {
-            Some(list) => out[0] = enter(list, lent),
-            None => out = source::answer(call, lent, scene),
+        match (call, call.enters()) {
+            (_, Some(list)) => out[0] = enter(list, lent),
+            (PlanCall::Build, _) => out[0] = stand(judged::built(lent), lent),
+            (PlanCall::Offer, _) => out[0] = stand(judged::offered(lent), lent),
+            _ => out = source::answer(call, lent, scene),
         }
+    }
+    if call == PlanCall::Build && number == TOO_DEEP {
+        // The one refusal that changes something.
+        no_tree(lent);
     }
     if lent.out.len() >= OUT_BYTES {
         lent.out.must_put(0, &out);
@@ -42,10 +51,21 @@ fn enter(list: List, lent: &mut Lent) -> u32 {
     }
     plan.must_put(list as usize, &[number + 1]);
     if list == List::Objects {
-        lent.nodes.must_zero(NODES_BYTES);
-        lent.order.must_zero(ORDER_BYTES);
+        no_tree(lent);
     }
     number
+}
+
+/// A new tree stands, with zeros past it. Gives the number of its nodes.
+fn stand((tables, verdict): (Tables, Verdict), lent: &mut Lent) -> u32 {
+    lent.nodes.must_begin_with(&tables.nodes);
+    lent.order.must_begin_with(&tables.order);
+    verdict.nodes as u32
+}
+
+fn no_tree(lent: &mut Lent) {
+    lent.nodes.must_begin_with(&[0; NODES_WORDS]);
+    lent.order.must_begin_with(&[0; ORDER_WORDS]);
 }
 
 fn must_piece(plan: &mut Table, at: usize, list: List, args: &[u32]) {

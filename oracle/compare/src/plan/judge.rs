@@ -6,9 +6,11 @@ use super::lent::Lent;
 use crate::answer::vec3;
 use crate::call::OUT_BYTES;
 use crate::judge::{
-    judge_floats, judge_prim, magnitude, not_negative, Lowest, Range, BAD_WORD, COORD, NO_EXTENT,
-    NO_ROOM, PLANE, POINT, RADIUS, WRONG_KIND,
+    judge_floats, judge_prim, magnitude, not_negative, Lowest, Range, BAD_WORD, COORD, DONE,
+    NO_EXTENT, NO_ROOM, PLANE, POINT, RADIUS, WRONG_KIND,
 };
+use crate::tree::judged;
+use crate::tree::rules::NO_TREE;
 use crate::words;
 
 pub const NO_MATERIAL: u32 = 3;
@@ -21,17 +23,35 @@ pub const BOUND: Range = magnitude(f32::MAX);
 pub fn number(call: PlanCall, lent: &Lent) -> u32 {
     let mut lowest = Lowest::default();
     lowest.apply(NO_ROOM, lent.out.len() < OUT_BYTES);
-    if call == PlanCall::AddObject {
+    if lent.looks_at_tree(call) {
         lowest.apply(NO_ROOM, lent.nodes.len() < NODES_BYTES);
         lowest.apply(NO_ROOM, lent.order.len() < ORDER_BYTES);
     }
+    if call == PlanCall::Offer {
+        lowest.apply(NO_ROOM, lent.offered_nodes.len() < NODES_BYTES);
+        lowest.apply(NO_ROOM, lent.offered_order.len() < ORDER_BYTES);
+    }
     if call.asks() {
-        assert!(lent.tree != 1, "trees are not judged yet");
         lowest.apply(BAD_WORD, lent.tree > 1);
     }
     let plan = judge_plan(call, lent.plan.bytes(), &mut lowest);
     judge_args(call, lent.args.bytes(), plan, &mut lowest);
+    // The numbers of a tree are above all these, so it is judged where none of them applies: its
+    // tables are of full size then, and the plan's objects are sound.
+    if lowest.number() == DONE {
+        judge_tree(call, lent, &mut lowest);
+    }
     lowest.number()
+}
+
+fn judge_tree(call: PlanCall, lent: &Lent, lowest: &mut Lowest) {
+    let number = match call {
+        PlanCall::Build => judged::built(lent).1.number,
+        PlanCall::Offer => judged::offered(lent).1.number,
+        _ if call.asks() && lent.tree == 1 && !judged::stands(lent) => NO_TREE,
+        _ => DONE,
+    };
+    lowest.apply(number, number != DONE);
 }
 
 /// What an entry looks at besides its own words. Where the plan is refused it is of no
@@ -119,6 +139,7 @@ fn judge_args(call: PlanCall, args: &[u8], plan: Option<State>, lowest: &mut Low
     match call {
         PlanCall::AddMaterial => judge_floats(&words, &[UNIT; MATERIAL_WORDS], lowest),
         PlanCall::AddLight => judge_light(&words, lowest),
+        PlanCall::Build | PlanCall::Offer => {}
         PlanCall::AddPlane => judge_piece(&words, List::Planes, plan, lowest),
         PlanCall::AddObject => judge_piece(&words, List::Objects, plan, lowest),
         PlanCall::Query => {

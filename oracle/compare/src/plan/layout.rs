@@ -2,8 +2,16 @@
 
 pub const PLAN_WORDS: usize = 22_288;
 pub const PLAN_BYTES: usize = 4 * PLAN_WORDS;
+
+/// The nodes, their words and the object numbers of a tree's two tables.
+pub const NODES: usize = 511;
+pub const NODE_WORDS: usize = 9;
+pub const NODES_WORDS: usize = NODES * NODE_WORDS;
 pub const NODES_BYTES: usize = 18_396;
+pub const ORDER_WORDS: usize = 256;
 pub const ORDER_BYTES: usize = 1_024;
+
+const _: () = assert!(4 * NODES_WORDS == NODES_BYTES && 4 * ORDER_WORDS == ORDER_BYTES);
 
 /// Cutters to one piece.
 pub const MOST_CUTTERS: usize = 8;

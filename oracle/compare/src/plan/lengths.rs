@@ -17,9 +17,12 @@ const PAST: usize = 72;
 pub fn run() -> Result<String, String> {
     let mut count = 0;
     for call in PlanCall::ALL {
-        for broken in Broken::ALL {
-            count += whole_tables(call, broken)?;
-            count += args_and_out(call, broken)?;
+        for &tree in call.trees() {
+            for broken in Broken::ALL {
+                let case = Case { call, tree, broken };
+                count += case.whole_tables()?;
+                count += case.args_and_out()?;
+            }
         }
     }
     Ok(format!("{count} cases"))
@@ -44,19 +47,11 @@ impl Broken {
     ];
 }
 
-fn lend(call: PlanCall, broken: Broken) -> Lent {
-    let mut lent = Lent::new(&sound::plan(), 0);
-    lent.args(&sound::args(call));
-    let piece = call.args_words() == ROW;
-    match broken {
-        Broken::Nowhere => {}
-        // The blend of the last object.
-        Broken::Plan => lent.plan.put(OBJECTS.at(2) + BLEND, &[NAN]),
-        Broken::Args => lent.args.put(usize::from(piece), &[NAN]),
-        Broken::LastCutter if piece => lent.args.put(2 * ROW + 1, &[NAN]),
-        Broken::LastCutter => {}
-    }
-    lent
+#[derive(Clone, Copy)]
+struct Case {
+    call: PlanCall,
+    tree: u32,
+    broken: Broken,
 }
 
 /// Lengths about a full size, and small ones. The plan's sections begin among them.
@@ -70,82 +65,125 @@ fn lengths(full: usize) -> Vec<usize> {
     lengths
 }
 
-fn whole_tables(call: PlanCall, broken: Broken) -> Result<usize, String> {
-    type Pick = fn(&mut Lent) -> &mut Table;
-    // Whether the call looks at the table at all.
-    let tables: [(Pick, usize, bool); 3] = [
-        (|lent| &mut lent.plan, PLAN_BYTES, true),
-        (
-            |lent| &mut lent.nodes,
-            NODES_BYTES,
-            call == PlanCall::AddObject,
-        ),
-        (
-            |lent| &mut lent.order,
-            ORDER_BYTES,
-            call == PlanCall::AddObject,
-        ),
-    ];
-    let mut count = 0;
-    for (pick, full, looked_at) in tables {
-        for len in lengths(full) {
-            let mut lent = lend(call, broken);
-            pick(&mut lent).resize(len);
-            let short = looked_at && len < full;
-            let plan_short = short && full == PLAN_BYTES;
-            let judged = match broken {
-                Broken::Nowhere => false,
-                Broken::Plan => !plan_short && !call.tests().is_empty(),
-                Broken::Args => true,
-                Broken::LastCutter => call.args_words() == ROW,
-            };
-            expect(call, &mut lent, number(judged, short))?;
-            count += 1;
-        }
-    }
-    // All at once, in an order of their own.
-    for (plan, nodes, order) in [(4, 0, 64), (0, 1, PAST), (PAST, PAST, PAST), (1, 2, 3)] {
-        let mut lent = lend(call, Broken::Nowhere);
-        lent.plan.resize(PLAN_BYTES + plan);
-        lent.nodes.resize(NODES_BYTES + nodes);
-        lent.order.resize(ORDER_BYTES + order);
-        lent.out.resize(OUT_BYTES + nodes);
-        expect(call, &mut lent, DONE)?;
-        count += 1;
-    }
-    Ok(count)
+/// A table that may be lent, its full size, and whether the call looks at it at all.
+struct Whole {
+    pick: fn(&mut Lent) -> &mut Table,
+    full: usize,
+    looked_at: bool,
 }
 
-fn args_and_out(call: PlanCall, broken: Broken) -> Result<usize, String> {
-    let piece = call.args_words() == ROW;
-    // A piece has two cutters here.
-    let row = 4 * call.args_words();
-    let need = if piece { 3 * row } else { row };
-    let mut count = 0;
-    let fresh = lend(call, broken);
-    let mut lent = lend(call, broken);
-    for args_len in 0..=need + 8 {
-        // Every length of each, with few of the other.
-        let out_lens = match need.abs_diff(args_len) {
-            0 | 1 => (0..=OUT_BYTES + PAST).collect(),
-            _ => vec![OUT_BYTES - 1, OUT_BYTES],
-        };
-        for out_len in out_lens {
-            let judged = match broken {
-                Broken::Nowhere => false,
-                Broken::Plan => !call.tests().is_empty(),
-                Broken::Args => args_len >= row,
-                Broken::LastCutter => piece && args_len >= need,
-            };
-            let short = args_len < need || out_len < OUT_BYTES;
-            lent.plan.copy(&fresh.plan);
-            lent.args.resize(args_len);
-            lent.out.resize(out_len);
-            expect(call, &mut lent, number(judged, short))?;
-            count += 1;
+impl Case {
+    fn lend(self) -> Lent {
+        let mut lent = Lent::new(&sound::plan(), 0);
+        lent.any_tree();
+        lent.tree = self.tree;
+        lent.args(&sound::args(self.call));
+        match self.broken {
+            Broken::Nowhere => {}
+            // The blend of the last object.
+            Broken::Plan => lent.plan.put(OBJECTS.at(2) + BLEND, &[NAN]),
+            Broken::Args => lent.args.put(usize::from(self.piece()), &[NAN]),
+            Broken::LastCutter if self.piece() => lent.args.put(2 * ROW + 1, &[NAN]),
+            Broken::LastCutter => {}
         }
+        lent
     }
-    Ok(count)
+
+    fn piece(self) -> bool {
+        self.call.args_words() == ROW
+    }
+
+    fn tables(self) -> [Whole; 5] {
+        let whole = |pick, full, looked_at| Whole {
+            pick,
+            full,
+            looked_at,
+        };
+        let written = matches!(
+            self.call,
+            PlanCall::AddObject | PlanCall::Build | PlanCall::Offer
+        );
+        let tree = written || self.tree == 1;
+        let offered = self.call == PlanCall::Offer;
+        [
+            whole(|lent| &mut lent.plan, PLAN_BYTES, true),
+            whole(|lent| &mut lent.nodes, NODES_BYTES, tree),
+            whole(|lent| &mut lent.order, ORDER_BYTES, tree),
+            whole(|lent| &mut lent.offered_nodes, NODES_BYTES, offered),
+            whole(|lent| &mut lent.offered_order, ORDER_BYTES, offered),
+        ]
+    }
+
+    fn whole_tables(self) -> Result<usize, String> {
+        let mut count = 0;
+        for table in self.tables() {
+            for len in lengths(table.full) {
+                let mut lent = self.lend();
+                (table.pick)(&mut lent).resize(len);
+                let short = table.looked_at && len < table.full;
+                let plan_short = short && table.full == PLAN_BYTES;
+                let judged = match self.broken {
+                    Broken::Nowhere => false,
+                    Broken::Plan => !plan_short && !self.call.tests().is_empty(),
+                    Broken::Args => self.call.args_words() > 0,
+                    Broken::LastCutter => self.piece(),
+                };
+                expect(self.call, &mut lent, number(judged, short))?;
+                count += 1;
+            }
+        }
+        Ok(count + self.all_at_once()?)
+    }
+
+    /// All tables longer than their full size, each in its own way.
+    fn all_at_once(self) -> Result<usize, String> {
+        if self.broken != Broken::Nowhere {
+            return Ok(0);
+        }
+        let cases = [(4, 0, 64), (0, 1, PAST), (PAST, PAST, PAST), (1, 2, 3)];
+        for (plan, nodes, order) in cases {
+            let mut lent = self.lend();
+            lent.plan.resize(PLAN_BYTES + plan);
+            lent.nodes.resize(NODES_BYTES + nodes);
+            lent.order.resize(ORDER_BYTES + order);
+            lent.offered_nodes.resize(NODES_BYTES + order);
+            lent.offered_order.resize(ORDER_BYTES + plan);
+            lent.out.resize(OUT_BYTES + nodes);
+            expect(self.call, &mut lent, DONE)?;
+        }
+        Ok(cases.len())
+    }
+
+    fn args_and_out(self) -> Result<usize, String> {
+        // A piece has two cutters here.
+        let row = 4 * self.call.args_words();
+        let need = if self.piece() { 3 * row } else { row };
+        let mut count = 0;
+        let fresh = self.lend();
+        let mut lent = self.lend();
+        for args_len in 0..=need + 8 {
+            // Every length of each, with few of the other.
+            let out_lens = match need.abs_diff(args_len) {
+                0 | 1 => (0..=OUT_BYTES + PAST).collect(),
+                _ => vec![OUT_BYTES - 1, OUT_BYTES],
+            };
+            for out_len in out_lens {
+                let judged = match self.broken {
+                    Broken::Nowhere => false,
+                    Broken::Plan => !self.call.tests().is_empty(),
+                    Broken::Args => row > 0 && args_len >= row,
+                    Broken::LastCutter => self.piece() && args_len >= need,
+                };
+                let short = args_len < need || out_len < OUT_BYTES;
+                lent.copy(&fresh);
+                lent.args.resize(args_len);
+                lent.out.resize(out_len);
+                expect(self.call, &mut lent, number(judged, short))?;
+                count += 1;
+            }
+        }
+        Ok(count)
+    }
 }
 
 fn number(bad_word: bool, short: bool) -> u32 {

@@ -1,8 +1,11 @@
 //! What a call is lent, beside what it must be after the call.
 
+use super::call::PlanCall;
 use super::layout::*;
 use super::model::Plan;
 use crate::call::OUT_BYTES;
+use crate::tree::make;
+use crate::tree::table::Tables;
 use crate::words;
 
 /// Bytes about a table, and what they hold: a byte written there by mistake is seen.
@@ -94,8 +97,9 @@ impl Table {
         }
     }
 
-    pub fn must_zero(&mut self, bytes: usize) {
-        self.must[self.first..self.first + bytes].fill(0);
+    /// The same from the first word on, for a table of which `before` is not asked.
+    pub fn must_begin_with(&mut self, words: &[u32]) {
+        words::put(&mut self.must[self.first..][..4 * words.len()], words);
     }
 
     pub fn must_word(&self, i: usize) -> u32 {
@@ -128,36 +132,70 @@ pub struct Lent {
     pub plan: Table,
     pub nodes: Table,
     pub order: Table,
+    pub offered_nodes: Table,
+    pub offered_order: Table,
     pub tree: u32,
     pub args: Table,
     pub out: Table,
 }
 
 impl Lent {
-    /// A plan and no tree, all tables of full size; their alignment follows `shift`.
+    /// A plan and no tree, neither standing nor offered, all tables of full size; their alignment
+    /// follows `shift`.
     pub fn new(plan: &Plan, shift: usize) -> Lent {
         let mut lent = Lent {
             plan: Table::new(PLAN_BYTES, shift),
             nodes: Table::new(NODES_BYTES, shift / 2),
             order: Table::new(ORDER_BYTES, shift / 3),
+            offered_nodes: Table::new(NODES_BYTES, shift / 4),
+            offered_order: Table::new(ORDER_BYTES, shift / 6),
             tree: 0,
             args: Table::new(4 * ROW * (MOST_CUTTERS + 2), shift / 5),
             out: Table::new(OUT_BYTES, shift / 7),
         };
         lent.plan.put(0, &plan.table());
-        lent.nodes.put(0, &[0; NODES_BYTES / 4]);
-        lent.order.put(0, &[0; ORDER_BYTES / 4]);
+        for nodes in [&mut lent.nodes, &mut lent.offered_nodes] {
+            nodes.put(0, &[0; NODES_WORDS]);
+        }
+        for order in [&mut lent.order, &mut lent.offered_order] {
+            order.put(0, &[0; ORDER_WORDS]);
+        }
         lent.args(&[]);
         lent
+    }
+
+    pub fn stand(&mut self, tree: &Tables) {
+        self.nodes.put(0, &tree.nodes);
+        self.order.put(0, &tree.order);
+    }
+
+    pub fn offer(&mut self, tree: &Tables) {
+        self.offered_nodes.put(0, &tree.nodes);
+        self.offered_order.put(0, &tree.order);
+    }
+
+    /// Lets a tree stand, and offers it, that is right for as many objects as the plan says it
+    /// has, whatever they are: so one can change the plan and not its tree.
+    pub fn any_tree(&mut self) {
+        let tree = make::wide_leaf(self.plan.word(List::Objects as usize));
+        self.stand(&tree);
+        self.offer(&tree);
     }
 
     pub fn copy(&mut self, from: &Lent) {
         self.plan.copy(&from.plan);
         self.nodes.copy(&from.nodes);
         self.order.copy(&from.order);
+        self.offered_nodes.copy(&from.offered_nodes);
+        self.offered_order.copy(&from.offered_order);
         self.args.copy(&from.args);
         self.out.copy(&from.out);
         self.tree = from.tree;
+    }
+
+    /// Whether the call looks at `nodes` and `order`.
+    pub fn looks_at_tree(&self, call: PlanCall) -> bool {
+        call.writes_tree() || (call.asks() && self.tree == 1)
     }
 
     /// Lends these `args`, with nothing but the mark past them.

@@ -3,23 +3,23 @@
 //! and VIEWER.md; `check` makes the call and compares. The other files have the cases.
 
 pub mod bench;
-mod call;
-mod check;
+pub mod call;
+pub mod check;
 mod damage;
-mod draw;
+pub mod draw;
 mod empty;
 mod entries;
 mod exit;
-mod judge;
-mod layout;
+pub mod judge;
+pub mod layout;
 mod lengths;
-mod lent;
+pub mod lent;
 mod limits;
-mod model;
+pub mod model;
 mod pairs;
-mod queries;
-mod sound;
-mod source;
+pub mod queries;
+pub mod sound;
+pub mod source;
 
 pub use call::PlanCall;
 pub use lent::Lent;

@@ -104,7 +104,7 @@ fn of_plan(
 }
 
 /// A bound: none, anything, below everything, or about the distance itself.
-fn bound(rng: &mut Rng, distance: f32) -> f32 {
+pub fn bound(rng: &mut Rng, distance: f32) -> f32 {
     match rng.below(12) {
         0..=3 => f32::MAX,
         4 => within(rng, BOUND),

@@ -53,6 +53,7 @@ pub fn args(call: PlanCall) -> Vec<u32> {
         PlanCall::AddLight => light().to_vec(),
         PlanCall::AddPlane => piece(PLANE, &[3, 0]).args(|| 0),
         PlanCall::AddObject => piece(3, &[3, 0]).args(|| 0),
+        PlanCall::Build | PlanCall::Offer => Vec::new(),
         PlanCall::Query => [&point[..], &[100f32.to_bits(), 77]].concat(),
         PlanCall::DistMat => point.to_vec(),
     }

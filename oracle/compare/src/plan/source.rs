@@ -1,17 +1,20 @@
-//! The answers of the source itself, by the plain list.
+//! The answers of the source itself, by the plain list and by a tree.
 
 use super::call::PlanCall;
 use super::lent::Lent;
 use super::model::{Piece, Plan};
 use crate::answer::{prim, vec3};
 use crate::call::OUT_WORDS;
+use crate::check::same;
+use crate::tree::judged;
 use crate::words;
 use glam::Vec3;
 use interflect::bvh::Bvh;
 use interflect::scene::{Camera, DistHit, RenderCfg, Scene};
 use interflect::sdf::Object;
 
-/// The source's scene of a plan. It has no tree, and is asked with `use_bvh` false.
+/// The source's scene of a plan. It has no tree, and is asked with `use_bvh` false until it is
+/// given one.
 pub fn scene(plan: &Plan) -> Scene {
     Scene {
         objects: plan.objects.iter().map(object).collect(),
@@ -26,7 +29,7 @@ pub fn scene(plan: &Plan) -> Scene {
     }
 }
 
-fn object(piece: &Piece) -> Object {
+pub fn object(piece: &Piece) -> Object {
     Object {
         prim: prim(piece.prim.kind, &piece.prim.shape),
         subtract: piece
@@ -46,31 +49,69 @@ pub fn query(scene: &Scene, point: Vec3, bound: f32, material: u32) -> DistHit {
         d: bound,
         mat: material,
     };
-    scene.bvh.query_linear(point, &scene.objects, &mut best);
+    if scene.use_bvh {
+        scene.bvh.query(point, &scene.objects, &mut best);
+    } else {
+        scene.bvh.query_linear(point, &scene.objects, &mut best);
+    }
     best
+}
+
+/// The scene of what is lent to an accepted call that asks.
+fn read(call: PlanCall, lent: &Lent) -> Scene {
+    let mut scene = scene(&Plan::read(lent.plan.bytes(), call.tests()));
+    if lent.tree == 1 {
+        scene.bvh = judged::for_the_source(lent, &scene.objects);
+        scene.use_bvh = true;
+    }
+    scene
 }
 
 /// The `out` of an accepted call that asks.
 pub fn answer(call: PlanCall, lent: &Lent, scene: Option<&Scene>) -> [u32; OUT_WORDS] {
-    let read;
+    let of_its_own;
     let scene = match scene {
         Some(scene) => scene,
         None => {
-            read = self::scene(&Plan::read(lent.plan.bytes(), call.tests()));
-            &read
+            of_its_own = read(call, lent);
+            &of_its_own
         }
     };
+    assert_eq!(scene.use_bvh, lent.tree == 1, "the scene is asked likewise");
     let args = words::all(lent.args.bytes());
     let point = vec3(&args);
     let mut out = [0; OUT_WORDS];
     let hit = if call == PlanCall::Query {
-        // By the list no node is popped, and every object is evaluated.
-        out[3] = scene.objects.len() as u32;
-        query(scene, point, f32::from_bits(args[3]), args[4])
+        let hit = query(scene, point, f32::from_bits(args[3]), args[4]);
+        [out[2], out[3]] = counts(lent, scene, &args, hit);
+        hit
     } else {
         scene.dist_mat(point)
     };
     out[0] = hit.d.to_bits();
     out[1] = hit.mat;
     out
+}
+
+/// Nodes popped and objects evaluated: by the list no node, and every object. The source does not
+/// count, so the judge's search does, and must find what the source found.
+fn counts(lent: &Lent, scene: &Scene, args: &[u32], hit: DistHit) -> [u32; 2] {
+    if lent.tree == 0 {
+        return [0, scene.objects.len() as u32];
+    }
+    let begin = DistHit {
+        d: f32::from_bits(args[3]),
+        mat: args[4],
+    };
+    let found = judged::found(lent, &scene.objects, vec3(args), begin);
+    let alike = same(found.hit.d.to_bits(), hit.d.to_bits(), false);
+    assert!(
+        alike && found.hit.mat == hit.mat,
+        "our judge's search finds {} of {}, the source {} of {}",
+        found.hit.d,
+        found.hit.mat,
+        hit.d,
+        hit.mat
+    );
+    [found.popped, found.evaluated]
 }

@@ -19,9 +19,9 @@ const OF_A_PLAN: usize = 40;
 /// Fewer refusals with some number than one in this many damages would mean bad drawing.
 const LEAST: usize = 400;
 
-/// How often each call sent each number, 0 to 5.
+/// How often each call sent each number, 0 to 8.
 #[derive(Default)]
-struct Sent([[usize; 6]; PlanCall::ALL.len()]);
+struct Sent([[usize; 9]; PlanCall::ALL.len()]);
 
 impl Sent {
     fn in_all(&self, number: usize) -> usize {
@@ -43,28 +43,33 @@ pub fn run(damages: usize) -> Result<String, String> {
     for i in 0..damages / OF_A_PLAN {
         let objects = draw::objects(&mut rng);
         let plan = draw::plan(&mut rng, objects);
-        let good = Lent::new(&plan, i);
+        // The tree is right for any objects, as long as they are as many.
+        let mut good = Lent::new(&plan, i);
+        good.any_tree();
         let mut lent = Lent::new(&plan, i);
         for _ in 0..OF_A_PLAN {
-            lent.plan.copy(&good.plan);
+            lent.copy(&good);
+            lent.tree = rng.below(2) as u32;
             strike::strike(&mut rng, &plan, &mut lent.plan);
             while rng.one_in(5) {
                 strike::strike(&mut rng, &plan, &mut lent.plan);
             }
             let entry = rng.pick(&PlanCall::ENTRIES);
-            // The entry comes last, since it may be accepted.
-            for call in [PlanCall::Query, PlanCall::DistMat, entry] {
+            let tree = rng.pick(&[PlanCall::Build, PlanCall::Offer]);
+            // What may be accepted comes last: the tree's call changes the tree, the entry all.
+            for call in [PlanCall::Query, PlanCall::DistMat, tree, entry] {
                 try_call(&mut rng, &plan, call, &mut lent, &mut sent)?;
             }
         }
     }
-    let in_all: Vec<usize> = (0..6).map(|number| sent.in_all(number)).collect();
-    if in_all.iter().any(|&n| n < damages / LEAST) {
+    let in_all: Vec<usize> = (0..9).map(|number| sent.in_all(number)).collect();
+    // Trees that don't fit the number of objects are few, and none is deep.
+    if in_all[..6].iter().any(|&n| n < damages / LEAST) {
         return Err(format!("badly drawn: of each number {in_all:?}"));
     }
     let lines = sent.lines();
     Ok(format!(
-        "{damages} plans; of each number, 0 to 5, {in_all:?}{lines}"
+        "{damages} plans; of each number, 0 to 8, {in_all:?}{lines}"
     ))
 }
 
@@ -80,18 +85,20 @@ pub fn every_word() -> Result<String, String> {
             break plan;
         }
     };
-    let good = Lent::new(&plan, 0);
+    let mut good = Lent::new(&plan, 0);
+    good.any_tree();
     let mut lent = Lent::new(&plan, 0);
     for i in 0..PLAN_WORDS {
         for call in PlanCall::ALL {
-            lent.plan.copy(&good.plan);
+            lent.copy(&good);
+            lent.tree = (i % 2) as u32;
             lent.plan.put(i, &NOT_FINITE[2..3]);
             try_call(&mut rng, &plan, call, &mut lent, &mut sent)?;
         }
     }
     for call in PlanCall::ALL {
         let (have, want) = (sent.0[call as usize], read_words(&plan, call));
-        if have[1..] != want {
+        if have[1..6] != want || have[6..] != [0; 3] {
             let name = call.name();
             return Err(format!(
                 "{name}: {have:?} numbers, of 1 to 5 must be {want:?}"
@@ -100,7 +107,7 @@ pub fn every_word() -> Result<String, String> {
     }
     let lines = sent.lines();
     Ok(format!(
-        "{PLAN_WORDS} in turn; of each number, 0 to 5{lines}"
+        "{PLAN_WORDS} in turn; of each number, 0 to 8{lines}"
     ))
 }
 
@@ -138,7 +145,7 @@ fn try_call(
             args[3] = rng.pick(&[f32::MAX, 1.0, 0.0, -f32::MAX]).to_bits();
             args[4] = rng.word();
         }
-    } else if !call.tests().is_empty() {
+    } else if call.args_words() == ROW {
         args[MATERIAL] = 0;
     }
     lent.args(&args);

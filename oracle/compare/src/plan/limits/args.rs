@@ -32,11 +32,11 @@ pub fn simple(cases: &mut Cases) -> Result<(), String> {
     }
     for call in PlanCall::ASKS {
         for tree in [2, 3, 8, 0x100, 0x101, 0x1_0000, 0x8000_0000, u32::MAX] {
-            cases.lent.tree = tree;
+            cases.bad_tree = Some(tree);
             cases.args(&sound::args(call));
             cases.hold(call, &[], &[], BAD_WORD)?;
         }
-        cases.lent.tree = 0;
+        cases.bad_tree = None;
     }
     Ok(())
 }

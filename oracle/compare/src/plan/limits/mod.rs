@@ -36,13 +36,19 @@ struct Cases {
     count: usize,
     lent: Lent,
     base: Lent,
+    /// A word `tree` that no call takes, where that is the case.
+    bad_tree: Option<u32>,
 }
 
 impl Cases {
     fn new() -> Cases {
         let [lent, base] = [0; 2].map(|_| Lent::new(&sound::plan(), 1));
-        let count = 0;
-        Cases { count, lent, base }
+        Cases {
+            count: 0,
+            lent,
+            base,
+            bad_tree: None,
+        }
     }
 
     /// The plan of the cases that follow.
@@ -54,7 +60,8 @@ impl Cases {
         self.base.args(args);
     }
 
-    /// Makes the call with some words of `args` and of the plan changed.
+    /// Makes the call with some words of `args` and of the plan changed; by the list and by a tree
+    /// that stands for the objects as they then are.
     fn hold(
         &mut self,
         call: PlanCall,
@@ -70,8 +77,14 @@ impl Cases {
         for &(i, word) in plan {
             self.lent.plan.put(i, &[word]);
         }
-        self.count += 1;
-        expect(call, &mut self.lent, number)
+        let bad = self.bad_tree.as_ref().map(std::slice::from_ref);
+        for &tree in bad.unwrap_or(call.trees()) {
+            self.lent.any_tree();
+            self.lent.tree = tree;
+            self.count += 1;
+            expect(call, &mut self.lent, number)?;
+        }
+        Ok(())
     }
 
     fn with_args(

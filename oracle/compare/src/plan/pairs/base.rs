@@ -64,9 +64,12 @@ impl Base {
     }
 
     /// The base and `args` that are sound, with two cutters where it is a piece that they enter.
-    pub fn lend(&self, call: PlanCall) -> Lent {
+    /// A tree stands, and is offered, that is right for the objects whatever they are.
+    pub fn lend(&self, call: PlanCall, tree: u32) -> Lent {
         let mut lent = Lent::new(&Plan::default(), 2);
         lent.plan.put(0, &self.table);
+        lent.any_tree();
+        lent.tree = tree;
         lent.args(&match call {
             PlanCall::AddPlane => with_upright(sound::piece(PLANE, &[3, 0])).args(|| 0),
             PlanCall::AddObject => with_upright(sound::piece(CAPSULE, &[3, 0])).args(|| 0),

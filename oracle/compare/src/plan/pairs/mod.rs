@@ -19,15 +19,17 @@ pub fn run(together: usize) -> Result<String, String> {
         let base = Base::new(crowded);
         for call in PlanCall::ALL {
             let piece = matches!(call, PlanCall::AddPlane | PlanCall::AddObject);
-            let mut sets = Sets {
-                call,
-                crowded: crowded && piece,
-                reasons: reasons::reasons(call, &base),
-                fresh: base.lend(call),
-                lent: base.lend(call),
-                sent: &mut sent,
-            };
-            sets.from(0, &mut Vec::new(), together)?;
+            for &tree in call.trees() {
+                let mut sets = Sets {
+                    call,
+                    crowded: crowded && piece,
+                    reasons: reasons::reasons(call, tree, &base),
+                    fresh: base.lend(call, tree),
+                    lent: base.lend(call, tree),
+                    sent: &mut sent,
+                };
+                sets.from(0, &mut Vec::new(), together)?;
+            }
         }
     }
     Ok(format!("up to {together}; of each number {sent:?}"))

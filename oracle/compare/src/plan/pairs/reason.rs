@@ -5,7 +5,8 @@ use crate::plan::lent::Lent;
 /// What a reason speaks of.
 #[derive(Clone, Copy, PartialEq)]
 pub enum Of {
-    /// Lengths of `nodes`, `order` and `out`, the word `tree`, a full list: hidden by nothing.
+    /// Lengths of trees' tables and `out`, the word `tree`, a full list: hidden by nothing. And the
+    /// words of a tree, since what would hide them gets a lower number.
     Lent,
     PlanLength,
     Counts,
@@ -45,6 +46,12 @@ pub enum Change {
     OrderLength(usize),
     ArgsLength(usize),
     OutLength(usize),
+    Nodes(usize, u32),
+    Order(usize, u32),
+    OfferedNodes(usize, u32),
+    OfferedOrder(usize, u32),
+    OfferedNodesLength(usize),
+    OfferedOrderLength(usize),
     Tree(u32),
 }
 
@@ -58,6 +65,12 @@ impl Change {
             Change::OrderLength(len) => lent.order.resize(len),
             Change::ArgsLength(len) => lent.args.resize(len),
             Change::OutLength(len) => lent.out.resize(len),
+            Change::Nodes(i, word) => lent.nodes.put(i, &[word]),
+            Change::Order(i, word) => lent.order.put(i, &[word]),
+            Change::OfferedNodes(i, word) => lent.offered_nodes.put(i, &[word]),
+            Change::OfferedOrder(i, word) => lent.offered_order.put(i, &[word]),
+            Change::OfferedNodesLength(len) => lent.offered_nodes.resize(len),
+            Change::OfferedOrderLength(len) => lent.offered_order.resize(len),
             Change::Tree(tree) => lent.tree = tree,
         }
     }

@@ -8,6 +8,7 @@ use crate::plan::call::PlanCall;
 use crate::plan::judge::NO_MATERIAL;
 use crate::plan::layout::*;
 use crate::plan::sound;
+use crate::tree::rules::{BAD_TREE, NO_TREE};
 use Change::{Args, ArgsLength, NodesLength, OrderLength, OutLength, PlanLength, Tree};
 
 const NAN: u32 = 0x7fc0_0000;
@@ -26,9 +27,10 @@ impl Reasons {
     }
 }
 
-pub fn reasons(call: PlanCall, base: &Base) -> Vec<Reason> {
+pub fn reasons(call: PlanCall, tree: u32, base: &Base) -> Vec<Reason> {
     let mut reasons = Reasons(Vec::new());
     lent(call, &mut reasons);
+    trees(call, tree, &mut reasons);
     counts(call, base, &mut reasons);
     for &list in call.tests() {
         pieces(list, base, &mut reasons);
@@ -40,14 +42,39 @@ pub fn reasons(call: PlanCall, base: &Base) -> Vec<Reason> {
 fn lent(call: PlanCall, reasons: &mut Reasons) {
     reasons.add(NO_ROOM, Of::Lent, [OutLength(OUT_BYTES - 1)]);
     reasons.add(NO_ROOM, Of::PlanLength, [PlanLength(PLAN_BYTES - 1)]);
-    let short = 4 * call.args_words() - 1;
-    reasons.add(NO_ROOM, Of::ArgsLength, [ArgsLength(short)]);
-    if call == PlanCall::AddObject {
-        reasons.add(NO_ROOM, Of::Lent, [NodesLength(NODES_BYTES - 1)]);
-        reasons.add(NO_ROOM, Of::Lent, [OrderLength(ORDER_BYTES - 1)]);
+    if call.args_words() > 0 {
+        let short = 4 * call.args_words() - 1;
+        reasons.add(NO_ROOM, Of::ArgsLength, [ArgsLength(short)]);
     }
     if call.asks() {
         reasons.add(BAD_WORD, Of::Lent, [Tree(2)]);
+    }
+}
+
+/// Tables of trees that are short, and trees that break a rule.
+fn trees(call: PlanCall, tree: u32, reasons: &mut Reasons) {
+    let written = matches!(
+        call,
+        PlanCall::AddObject | PlanCall::Build | PlanCall::Offer
+    );
+    if written || tree == 1 {
+        reasons.add(NO_ROOM, Of::Lent, [NodesLength(NODES_BYTES - 1)]);
+        reasons.add(NO_ROOM, Of::Lent, [OrderLength(ORDER_BYTES - 1)]);
+    }
+    if tree == 1 {
+        reasons.add(NO_TREE, Of::Lent, [Change::Nodes(0, NAN)]);
+        reasons.add(NO_TREE, Of::Lent, [Change::Order(0, 1)]);
+    }
+    if call == PlanCall::Offer {
+        let lengths = [
+            Change::OfferedNodesLength(NODES_BYTES - 1),
+            Change::OfferedOrderLength(ORDER_BYTES - 1),
+        ];
+        for length in lengths {
+            reasons.add(NO_ROOM, Of::Lent, [length]);
+        }
+        reasons.add(BAD_TREE, Of::Lent, [Change::OfferedNodes(0, NAN)]);
+        reasons.add(BAD_TREE, Of::Lent, [Change::OfferedOrder(0, 1)]);
     }
 }
 
@@ -122,6 +149,7 @@ fn pieces(list: List, base: &Base, reasons: &mut Reasons) {
 fn args(call: PlanCall, reasons: &mut Reasons) {
     let given = |(i, word)| Args(i, word);
     match call {
+        PlanCall::Build | PlanCall::Offer => {}
         PlanCall::AddMaterial | PlanCall::DistMat => {
             reasons.add(BAD_WORD, Of::Args, [Args(0, NAN)]);
         }

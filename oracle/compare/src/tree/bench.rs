@@ -1,0 +1,3 @@
+//! Times of trees, ours beside the source's.
+
+pub fn run() {}

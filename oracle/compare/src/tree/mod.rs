@@ -1,0 +1,48 @@
+//! Trees: what document 01 says of them, and the comparisons of the calls that build, take or use
+//! one. `rules` says which number a tree gets, `search` what a search of it finds and counts;
+//! neither knows our library. `judged` puts both to what is lent to a call; the other files have
+//! the cases.
+
+pub mod bench;
+mod builds;
+mod draw;
+pub mod judged;
+mod limits;
+pub mod make;
+mod offers;
+mod rows;
+pub mod rules;
+mod search;
+mod shape;
+mod source;
+mod strike;
+pub mod table;
+
+use crate::gate::{run_parts, Part};
+
+/// What `gate` runs of it.
+pub const GATE: [Part; 4] = [
+    ("tree rows", rows::run),
+    ("tree builds", || builds::run(300, 20)),
+    ("tree offers", || offers::run(6_000)),
+    ("tree limits", limits::run),
+];
+
+/// The same at length.
+const LONG: [Part; 4] = [
+    ("rows", rows::run),
+    ("builds", || builds::run(10_000, 100)),
+    ("offers", || offers::run(150_000)),
+    ("limits", limits::run),
+];
+
+pub fn run() -> Result<(), String> {
+    run_parts("tree", &LONG)
+}
+
+/// One part of the long run.
+pub fn run_one(name: &str) -> Result<(), String> {
+    let part = LONG.iter().find(|part| part.0 == name);
+    let part = part.ok_or_else(|| format!("there is no part `{name}`"))?;
+    run_parts("tree", &[*part])
+}
