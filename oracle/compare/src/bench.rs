@@ -54,7 +54,10 @@ pub fn run() -> Result<(), String> {
         i.prim.bounds().unwrap()
     });
     #[cfg(feature = "plan")]
-    crate::plan::bench::run();
+    {
+        crate::plan::bench::run();
+        crate::tree::bench::run();
+    }
     Ok(())
 }
 
@@ -74,14 +77,15 @@ pub fn pair<I, A, B>(
     println!("{name:<20} {least_ours:>8.2} {least_theirs:>8.2} {ratio:>7.2}");
 }
 
-/// The same where the Rust has nothing to put beside ours.
+/// The same where the Rust has nothing to put beside ours. Gives the time too.
 #[cfg(feature = "plan")]
-pub fn alone<I, A>(name: &str, inputs: &[I], mut ours: impl FnMut(&I) -> A) {
+pub fn alone<I, A>(name: &str, inputs: &[I], mut ours: impl FnMut(&I) -> A) -> f64 {
     let mut least = f64::MAX;
     for _ in 0..TURNS {
         least = least.min(nanoseconds(inputs, &mut ours));
     }
     println!("{name:<20} {least:>8.2}");
+    least
 }
 
 fn nanoseconds<I, A>(inputs: &[I], f: &mut impl FnMut(&I) -> A) -> f64 {

@@ -45,7 +45,7 @@ pub fn run() {
 }
 
 /// So many objects in a room, each with so many cutters.
-fn plan(rng: &mut Rng, objects: usize, cutters: usize) -> Plan {
+pub fn plan(rng: &mut Rng, objects: usize, cutters: usize) -> Plan {
     let piece = |_| -> Piece { draw::piece(rng, &ROOM, List::Objects, 4, cutters) };
     Plan {
         objects: (0..objects).map(piece).collect(),
@@ -55,14 +55,14 @@ fn plan(rng: &mut Rng, objects: usize, cutters: usize) -> Plan {
 }
 
 /// The args of queries: a point in the room, no bound.
-fn points(rng: &mut Rng) -> Vec<[u32; 5]> {
+pub fn points(rng: &mut Rng) -> Vec<[u32; 5]> {
     let mut coord = || (rng.unit() * 20.0 - 10.0).to_bits();
     (0..INPUTS)
         .map(|_| [coord(), coord(), coord(), f32::MAX.to_bits(), 0])
         .collect()
 }
 
-fn ask(lent: &mut Lent, args: &[u32; 5]) -> u32 {
+pub fn ask(lent: &mut Lent, args: &[u32; 5]) -> u32 {
     lent.args.put(0, args);
     viewer::plan::send(PlanCall::Query, lent)
 }

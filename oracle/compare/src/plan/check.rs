@@ -145,7 +145,12 @@ fn trees(call: PlanCall, lent: &Lent) -> String {
     };
     let mut text = format!("tree of {} and {} bytes:", nodes.len(), order.len());
     let (nodes, order) = (nodes.before(), order.before());
-    let used = |words: &[u32]| words.iter().rposition(|&word| word != 0).map_or(0, |i| i + 1);
+    let used = |words: &[u32]| {
+        words
+            .iter()
+            .rposition(|&word| word != 0)
+            .map_or(0, |i| i + 1)
+    };
     for (i, node) in nodes[..used(&nodes)].chunks(NODE_WORDS).enumerate() {
         write!(text, "\n    node {i}: {node:08x?}").unwrap();
     }

@@ -59,10 +59,26 @@ fn of_call(rng: &mut Rng, call: PlanCall, lent: &mut Lent) -> Result<usize, Stri
 fn short_tables(rng: &mut Rng, call: PlanCall, lent: &mut Lent) -> Result<usize, String> {
     type Pick = fn(&mut Lent) -> &mut Table;
     let looked_at: [(Pick, usize, bool); 4] = [
-        (|lent| &mut lent.nodes, NODES_BYTES, lent.looks_at_tree(call)),
-        (|lent| &mut lent.order, ORDER_BYTES, lent.looks_at_tree(call)),
-        (|lent| &mut lent.offered_nodes, NODES_BYTES, call == PlanCall::Offer),
-        (|lent| &mut lent.offered_order, ORDER_BYTES, call == PlanCall::Offer),
+        (
+            |lent| &mut lent.nodes,
+            NODES_BYTES,
+            lent.looks_at_tree(call),
+        ),
+        (
+            |lent| &mut lent.order,
+            ORDER_BYTES,
+            lent.looks_at_tree(call),
+        ),
+        (
+            |lent| &mut lent.offered_nodes,
+            NODES_BYTES,
+            call == PlanCall::Offer,
+        ),
+        (
+            |lent| &mut lent.offered_order,
+            ORDER_BYTES,
+            call == PlanCall::Offer,
+        ),
     ];
     let mut count = 0;
     for (pick, full, _) in looked_at.into_iter().filter(|table| table.2) {

@@ -9,7 +9,7 @@ use crate::rng::Rng;
 use crate::words;
 
 pub fn plan(rng: &mut Rng) -> Plan {
-    if rng.one_in(16) {
+    if rng.one_in(10) {
         return powers(rng);
     }
     let objects = draw::objects(rng);

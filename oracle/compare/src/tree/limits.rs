@@ -191,7 +191,10 @@ fn overflows(cases: &mut Cases) -> Result<(), String> {
     };
     cases.offer(&tree([[0, 1, 0], [1, 1, 0]], 2), DONE)?;
     // Sums that are 2 but for their carry.
-    cases.offer(&tree([[0, 1 << 31, 0], [1 << 31, (1 << 31) + 2, 0]], 2), BAD_TREE)?;
+    cases.offer(
+        &tree([[0, 1 << 31, 0], [1 << 31, (1 << 31) + 2, 0]], 2),
+        BAD_TREE,
+    )?;
     cases.offer(&tree([[0, u32::MAX, 0], [u32::MAX, 3, 0]], 2), BAD_TREE)?;
     cases.offer(&tree([[0, 3, 0], [3, u32::MAX, 0]], 2), BAD_TREE)?;
     for right in [0, 1, 3, 510, 511, 512, 1 << 31, (1 << 31) + 2, u32::MAX] {

@@ -8,7 +8,7 @@ use glam::Vec3;
 /// How the objects of a node are shared out.
 #[derive(Clone, Copy, Debug)]
 pub enum Form {
-    /// Anywhere, down to leaves of about so many.
+    /// Anywhere, down to leaves of up to so many.
     Random(usize),
     /// One object goes to a leaf and the rest on, down to a leaf of all that are left at a depth.
     /// The rest goes left, right, or now this way and now that.
@@ -120,9 +120,7 @@ impl Making<'_> {
             return None;
         }
         match self.form {
-            Form::Random(leaf) if count <= 2 * leaf && self.rng.below(2 * leaf) + 1 >= count => {
-                None
-            }
+            Form::Random(most) if count <= 1 + self.rng.below(most) => None,
             Form::Random(_) => Some(1 + self.rng.below(count - 1)),
             Form::Chain(depth_of_last, _) if depth >= depth_of_last => None,
             Form::Chain(_, lean) => {

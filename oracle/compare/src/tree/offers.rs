@@ -48,7 +48,7 @@ pub fn run(offers: usize) -> Result<String, String> {
         "{offers} trees offered, {known} of them with a number known beforehand: {taken} taken, \
          {bad} got 6, {deep} got 7; as standing trees {stood} counted, {not} did not"
     );
-    if taken.min(bad) < offers / 5 || deep < offers / 50 {
+    if taken.min(bad) < offers / 5 || deep < offers / 100 {
         return Err(format!("badly drawn: {line}"));
     }
     Ok(line)
@@ -86,7 +86,9 @@ impl Case {
         self.lent.stand(&standing);
         if rng.one_in(4) {
             let junk = rng.word();
-            self.lent.nodes.fill(|i| (i as u32).wrapping_mul(junk) as u8);
+            self.lent
+                .nodes
+                .fill(|i| (i as u32).wrapping_mul(junk) as u8);
         }
         self.lent.offer(&tree);
         if let Some(number) = known {
@@ -130,7 +132,9 @@ impl Case {
         let leaf = rng.pick(&[1, 2, 4, 20]);
         let depth = rng.pick(&[1, 10, 62, 63, 64, 65, 100, 255]);
         let lean = rng.pick(&[Lean::Left, Lean::Right, Lean::Both]);
-        let form = match rng.below(3) {
+        // Few plans have objects enough for a deep tree.
+        let chains = if self.boxes.len() > 64 { 2 } else { 5 };
+        let form = match rng.below(chains) {
             0 => Form::Chain(depth, lean),
             _ => Form::Random(leaf),
         };

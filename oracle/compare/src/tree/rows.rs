@@ -38,7 +38,9 @@ pub fn run() -> Result<String, String> {
     let lent = built(&powers(-26..=41), TOO_DEEP)?;
     let none = Tables::new(&[], &[]);
     same_tables("R3", &lent, &none)?;
-    Ok(format!("R1, R2, R3 (67 objects in {nodes} nodes, 68 get 7)"))
+    Ok(format!(
+        "R1, R2, R3 (67 objects in {nodes} nodes, 68 get 7)"
+    ))
 }
 
 fn node(from: f32, to: f32, [start, count, right]: [u32; 3]) -> Node {
