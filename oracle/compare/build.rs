@@ -1,4 +1,5 @@
-//! Links our static library.
+//! Links our static library; with `BEMITONDRY_LIB=none` there is none, which is enough for
+//! `cargo check` and for the tests of the judge, as no test makes a call.
 
 use std::env;
 use std::path::{Path, PathBuf};
@@ -8,6 +9,9 @@ fn main() {
     println!("cargo:rerun-if-changed=build.rs");
     println!("cargo:rerun-if-env-changed=BEMITONDRY_LIB");
     let folder = env::var_os("BEMITONDRY_LIB").map_or_else(in_the_repository, PathBuf::from);
+    if folder.as_os_str() == "none" {
+        return;
+    }
     let library = folder.join("libviewer.a");
     println!("cargo:rerun-if-changed={}", library.display());
     if !library.is_file() {

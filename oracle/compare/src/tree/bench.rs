@@ -83,7 +83,7 @@ fn offers(rng: &mut Rng, full: &Plan, scene: &Scene) {
     let bounds = boxes(&scene.objects);
     let tree = make::tree(rng, &bounds, Form::Random(1), Slack::None);
     let leaf = make::wide_leaf(OBJECTS.records as u32);
-    let mut offer = |name: &str, plan: &Plan, tables| {
+    let offer = |name: &str, plan: &Plan, tables| {
         let mut lent = Lent::new(plan, 0);
         lent.offer(tables);
         let time = alone(name, &[(); 32], |_| {

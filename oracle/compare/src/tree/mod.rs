@@ -17,6 +17,8 @@ mod shape;
 mod source;
 mod strike;
 pub mod table;
+#[cfg(test)]
+mod tests;
 
 use crate::gate::{run_parts, Part};
 
