@@ -4,12 +4,13 @@
 use crate::draw::{fit, within};
 use crate::judge::{judge_prim, Lowest, CAPSULE, COORD, DONE};
 use crate::plan::draw;
+use crate::plan::layout::OBJECTS;
 use crate::plan::model::{Plan, Prim};
 use crate::rng::Rng;
 use crate::words;
 
 pub fn plan(rng: &mut Rng) -> Plan {
-    if rng.one_in(10) {
+    if rng.one_in(8) {
         return powers(rng);
     }
     let objects = draw::objects(rng);
@@ -111,17 +112,20 @@ fn diagonal(rng: &mut Rng, plan: &mut Plan) {
     });
 }
 
-/// Each as far out as 1.25 times the one before: splits take few objects off at a time.
+/// Each as far out as 1.25 times the one before, along one axis or several: splits take few
+/// objects off at a time.
 fn powers(rng: &mut Rng) -> Plan {
-    let many = 40 + rng.below(80);
+    let arms = rng.pick(&[1, 1, 1, 2, 4, 6]);
+    let many = (40 * arms + rng.below(80)).min(OBJECTS.records);
     let mut plan = draw::plan(rng, many);
-    let axis = rng.below(3);
-    let sign = rng.pick(&[1.0, -1.0]);
+    let first = rng.below(6);
     let radius = rng.pick(&[0.0, 0.0, 1e-7]);
     let far = 20 + rng.below(22) as i32;
     for (i, piece) in plan.objects.iter_mut().enumerate() {
+        let arm = first + i % arms;
+        let sign = if arm % 2 == 0 { 1.0 } else { -1.0 };
         let mut sphere = [0.0, 0.0, 0.0, radius];
-        sphere[axis] = sign * 1.25f32.powi(far - i as i32);
+        sphere[arm / 2 % 3] = sign * 1.25f32.powi(far - (i / arms) as i32);
         piece.prim = Prim::new(0, &words::bits(&sphere));
         piece.blend = 0;
     }
