@@ -123,13 +123,26 @@ fn random(seed: u64) -> Result<Growing, String> {
             growing.enter(thing)?;
         }
         if growing.rng.one_in(16) {
-            growing.lent.args(&sound::args(PlanCall::Query));
-            for call in PlanCall::ASKS {
-                check(call, &mut growing.lent)?;
-            }
+            // A tree, which stays until the next object.
+            let sent = check(PlanCall::Build, &mut growing.lent)?;
+            growing.sent[sent as usize] += 1;
+        }
+        if growing.rng.one_in(16) {
+            ask(&mut growing)?;
         }
     }
     Ok(growing)
+}
+
+/// By the list, or by the tree if one still stands.
+fn ask(growing: &mut Growing) -> Result<(), String> {
+    growing.lent.args(&sound::args(PlanCall::Query));
+    growing.lent.tree = growing.rng.below(2) as u32;
+    for call in PlanCall::ASKS {
+        let sent = check(call, &mut growing.lent)?;
+        growing.sent[sent as usize] += 1;
+    }
+    Ok(())
 }
 
 /// An entry with some words changed or some table short, on a copy, for it may be accepted.
