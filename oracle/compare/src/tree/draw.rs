@@ -123,7 +123,7 @@ fn powers(rng: &mut Rng) -> Plan {
     let far = 20 + rng.below(22) as i32;
     for (i, piece) in plan.objects.iter_mut().enumerate() {
         let arm = first + i % arms;
-        let sign = if arm % 2 == 0 { 1.0 } else { -1.0 };
+        let sign = [1.0, -1.0][arm % 2];
         let mut sphere = [0.0, 0.0, 0.0, radius];
         sphere[arm / 2 % 3] = sign * 1.25f32.powi(far - (i / arms) as i32);
         piece.prim = Prim::new(0, &words::bits(&sphere));
