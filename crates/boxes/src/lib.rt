@@ -45,7 +45,8 @@ pub fn merge(a: Aabb, b: Aabb) -> Aabb
     }
 }
 
-fn no_box() -> Aabb
+// What stands for the box of no object: it lies within no box.
+pub fn no_box() -> Aabb
     ensures { λ r. ⌜ r ≡ noBox ⌝ }
 {
     Aabb {

@@ -99,7 +99,7 @@ pub fn build_recursive(
 fn load_boxes(ws: &[u32; 22288], fs: &[f32; 22288], t: &mut [f32])
     ensures { λ _. ⌜ tableBoxes (now (t .exit)) ≡ laid (tableBoxes (now (t .entry))) 0 (boxesOf (now (ws .entry)) (now (fs .entry))) ⌝ }
 {
-    let n = objects(ws);
+    let n = tree::object_count(ws);
     let mut o: u32 = 0;
     while o < n {
         split::put_box(t, o as usize, boxes::object_box(ws, fs, o));
@@ -116,12 +116,6 @@ fn number(os: &mut [u32])
         os[i] = narrow(i);
         i += 1;
     }
-}
-
-fn objects(ws: &[u32; 22288]) -> u32
-    ensures { λ r. ⌜ r ≡ countObjects (now (ws .entry)) ⌝ }
-{
-    ws[3]
 }
 
 fn build_with(
@@ -167,7 +161,7 @@ pub fn build(
 ) -> Built
     ensures { λ r. ⌜ (countObjects (now (ws .entry)) ≤ 256 → Builds (now (ws .entry)) (now (fs .entry)) (now (nw .entry)) (now (ow .entry)) r (now (nw .exit)) (now (ow .exit))) ⌝ }
 {
-    let n = objects(ws) as usize;
+    let n = tree::object_count(ws) as usize;
     if n == 0 {
         return Built { next: 0, low: true };
     }

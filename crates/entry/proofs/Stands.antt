@@ -4,52 +4,34 @@ use mathlib.Core.Path.{_≡_, refl, sym, _∙_, ap}
 use mathlib.Core.Logic.{_⊎_, inl, inr}
 use mathlib.Core.Bool.{Bool, true, false}
 use mathlib.Core.List.{List, [], _∷_, _++_}
-use native.Mathlib.Nat.{eq-or-lt-of-le}
 use native.Mathlib.Omega.{arith}
 use lib.ListN.{getD}
 use lib.Ieee.{Float}
 use Rattle.words.specs.Lists.{listFrom}
 use Rattle.words.specs.Words.{floatsOf}
-use Rattle.words.proofs.Runs.{from-snoc}
+use Rattle.words.proofs.Runs.{from-same, from-snoc}
 use Rattle.scene.specs.declared.Head.{Head}
 use Rattle.scene.specs.Model.{Piece, primOf, cutterKind, cutterAt, headAt, pieceAt, piecesFrom, countMaterials, countPlanes, countObjects}
 use Rattle.sound.specs.Exact.{PrimOk, PieceOk, cuttersBefore, PlaceIs, PiecesOk, SoundSolids}
 use Rattle.sound.proofs.Numbers.{each-more}
+use Rattle.sound.proofs.Apart.{before-next, before-mono}
 use Rattle.entry.specs.After.{seen, argShape, givenPiece}
-use Rattle.words.proofs.Runs.{from-same}
 
 -- ---- the places that the first pieces use
 module _ (w : List ℕ) (f : List Float) (r : ℕ) where
-  before-most : (m j : ℕ) → j ≤ m → cuttersBefore w f r j ≤ cuttersBefore w f r m
-  unfolding cuttersBefore
-  before-most zero zero h = omega arith
-  before-most zero (suc j) h = absurd (omega arith)
-  before-most (suc m) j h = go (λ l. before-most m j l) (less h)
-    where
-      less : j ≤ suc m → (j ≡ suc m) ⊎ (j < suc m)
-      less = eq-or-lt-of-le
-
-      go : (j ≤ m → cuttersBefore w f r j ≤ cuttersBefore w f r m) → (j ≡ suc m) ⊎ (j < suc m) → cuttersBefore w f r j ≤ cuttersBefore w f r (suc m)
-      go ih (inl e) = rw e (omega arith)
-      go ih (inr l) = omega (arith, ih (omega arith))
-
-  before-more : (j : ℕ) → cuttersBefore w f r (suc j) ≡ cuttersBefore w f r j + headAt w f (r + j) .cutters
-  unfolding cuttersBefore
-  before-more j = refl
-
   -- the last place of a plane's cutters is below 1,024, the first not below what the planes leave; an object's are below what the objects use
   pub planes-reach : (n j k : ℕ) → PiecesOk true w f r n → j < n → k < headAt w f (r + j) .cutters → (headAt w f (r + j) .place + k < 1024) × (1024 ≤ headAt w f (r + j) .place + k + cuttersBefore w f r n)
   planes-reach n j k ok h q =
       let p : headAt w f (r + j) .place + cuttersBefore w f r (suc j) ≡ 1024 = ok .place j h in
-      let m : cuttersBefore w f r (suc j) ≤ cuttersBefore w f r n = before-most n (suc j) (omega arith) in
-      let s = before-more j in
+      let m : cuttersBefore w f r (suc j) ≤ cuttersBefore w f r n = before-mono w f r (suc j) n (omega arith) in
+      let s = before-next w f r j in
       (omega arith, omega arith)
 
   pub objects-reach : (n j k : ℕ) → PiecesOk false w f r n → j < n → k < headAt w f (r + j) .cutters → headAt w f (r + j) .place + k < cuttersBefore w f r n
   objects-reach n j k ok h q =
       let p : headAt w f (r + j) .place ≡ cuttersBefore w f r j = ok .place j h in
-      let m : cuttersBefore w f r (suc j) ≤ cuttersBefore w f r n = before-most n (suc j) (omega arith) in
-      let s = before-more j in
+      let m : cuttersBefore w f r (suc j) ≤ cuttersBefore w f r n = before-mono w f r (suc j) n (omega arith) in
+      let s = before-next w f r j in
       omega arith
 
 -- ---- pieces whose heads and cutters are the same, and one more piece
@@ -176,7 +158,7 @@ module _ (w aw v : List ℕ) (row place n : ℕ) (laid : Laid w aw v row place n
   pub used-more : row ≡ r + m → n ≡ getD aw 2 0 → cuttersBefore v (seen v) r (suc m) ≡ cuttersBefore w (seen w) r m + n
   used-more e q =
       let c : headAt v (seen v) (r + m) .cutters ≡ n = ap (λ (h : Head). h .cutters) (new-head e) ∙ new-few ∙ sym q in
-      before-more v (seen v) r m ∙ rw (used-stands, c)
+      before-next v (seen v) r m ∙ rw (used-stands, c)
 
   pub ok-entered
       : (planes : Bool)

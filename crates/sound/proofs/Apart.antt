@@ -12,21 +12,21 @@ use Rattle.scene.specs.Model.{countPlanes, countObjects, planeRow, objectRow, h
 use Rattle.sound.specs.Exact.{cuttersBefore, PiecesOk, SoundSolids}
 
 module _ (w : List ℕ) (f : List Float) (r : ℕ) where
-  abbrev before : ℕ → ℕ
+  abbrev pub before : ℕ → ℕ
   before j = cuttersBefore w f r j
 
-  next : (j : ℕ) → before (suc j) ≡ before j + headAt w f (r + j) .cutters
+  pub before-next : (j : ℕ) → before (suc j) ≡ before j + headAt w f (r + j) .cutters
   unfolding cuttersBefore
-  next j = refl
+  before-next j = refl
 
   more : (i d : ℕ) → before i ≤ before (i + d)
   more i zero = le-of-eq (ap before (sym (add-zero i)))
-  more i (suc d) = step (before i) (before (i + d)) (headAt w f (r + (i + d)) .cutters) (before (i + suc d)) (more i d) (rw add-suc (next (i + d)))
+  more i (suc d) = step (before i) (before (i + d)) (headAt w f (r + (i + d)) .cutters) (before (i + suc d)) (more i d) (rw add-suc (before-next (i + d)))
     where
       step : (a b c e : ℕ) → a ≤ b → e ≡ b + c → a ≤ e
       step a b c e h k = omega arith
 
-  before-mono : (i j : ℕ) → i ≤ j → before i ≤ before j
+  pub before-mono : (i j : ℕ) → i ≤ j → before i ≤ before j
   before-mono i j h = le-trans (more i (j - i)) (le-of-eq (ap before (add-sub-of-le h)))
 
 -- the cutters of the piece in row r, from its place on, end before those of the piece in row s begin
@@ -38,7 +38,7 @@ module _ (w : List ℕ) (f : List Float) (s : SoundSolids w f) where
   objects-apart i j h k =
       let a = s .objects .place i (omega arith) in
       let b = s .objects .place j k in
-      let n = next w f objectRow i in
+      let n = before-next w f objectRow i in
       let m = before-mono w f objectRow (suc i) j h in
       omega arith
 
@@ -46,7 +46,7 @@ module _ (w : List ℕ) (f : List Float) (s : SoundSolids w f) where
   planes-apart i j h k =
       let a = s .planes .place i (omega arith) in
       let b = s .planes .place j k in
-      let n = next w f planeRow j in
+      let n = before-next w f planeRow j in
       let m = before-mono w f planeRow (suc i) j h in
       omega arith
 
@@ -54,7 +54,7 @@ module _ (w : List ℕ) (f : List Float) (s : SoundSolids w f) where
   lists-apart i j h k =
       let a = s .objects .place i h in
       let b = s .planes .place j k in
-      let n = next w f objectRow i in
+      let n = before-next w f objectRow i in
       let m = before-mono w f objectRow (suc i) (countObjects w) h in
       let l = before-mono w f planeRow (suc j) (countPlanes w) k in
       let t = s .room in

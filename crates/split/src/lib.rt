@@ -52,10 +52,7 @@ pub fn box_at(t: &[f32], k: usize) -> Aabb
             },
         };
     }
-    Aabb {
-        lo: Vec3::splat(0.0 / 0.0),
-        hi: Vec3::splat(0.0 / 0.0),
-    }
+    boxes::no_box()
 }
 
 pub fn put_box(t: &mut [f32], k: usize, b: Aabb)

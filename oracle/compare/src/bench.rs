@@ -67,7 +67,7 @@ pub fn pair<I, A, B>(
     inputs: &[I],
     mut ours: impl FnMut(&I) -> A,
     mut theirs: impl FnMut(&I) -> B,
-) {
+) -> (f64, f64) {
     let (mut least_ours, mut least_theirs) = (f64::MAX, f64::MAX);
     for _ in 0..TURNS {
         least_ours = least_ours.min(nanoseconds(inputs, &mut ours));
@@ -75,9 +75,10 @@ pub fn pair<I, A, B>(
     }
     let ratio = least_ours / least_theirs;
     println!("{name:<20} {least_ours:>8.2} {least_theirs:>8.2} {ratio:>7.2}");
+    (least_ours, least_theirs)
 }
 
-/// The same where the Rust has nothing to put beside ours. Gives the time too.
+/// The same where the Rust has nothing to put beside ours.
 #[cfg(feature = "plan")]
 pub fn alone<I, A>(name: &str, inputs: &[I], mut ours: impl FnMut(&I) -> A) -> f64 {
     let mut least = f64::MAX;

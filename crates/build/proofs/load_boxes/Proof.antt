@@ -12,8 +12,8 @@ Inv-loop ws fs t₀ n o₀ t o = (o ≤ n) × Loaded ws fs t₀ t o
 abbrev μ-loop : tie.MeasureT-loop
 μ-loop ws fs t₀ n o₀ t o = n - o
 
-objects-requires : tie.Need-objects-requires Inv-loop μ-loop
-objects-requires c κs = search needs
+object-count-requires : tie.Need-object-count-requires Inv-loop μ-loop
+object-count-requires c κs = search needs
 
 loop-holds : tie.Need-loop-holds Inv-loop μ-loop
 loop-holds c = (search needs, load-none _ _ _)
@@ -51,7 +51,7 @@ load-boxes-spec =
     (tie.spec
     Inv-loop
     μ-loop
-    objects-requires
+    object-count-requires
     loop-holds
     cast-put-box
     object-box-requires

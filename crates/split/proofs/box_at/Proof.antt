@@ -1,7 +1,5 @@
 -- `split::box_at` meets its contract. Assumes nothing.
 use borrow.Author.Needs.{needs}
-use Rattle.vec.specs.Vec.{vsplat}
-use Rattle.root.proofs.Nans.{zero-by-zero}
 use Rattle.split.proofs.Table.{box-here, box-past}
 use Rattle.split.proofs.box_at.Statement.{statement}
 use Rattle.split.proofs.box_at.Tie as tie
@@ -63,15 +61,11 @@ shared-slice-read-t30 c = search needs
 returns : tie.Need-returns
 returns c = rw (box-here _ _ (c .before .before .before .before .before .before .if1 .taken)) (search needs)
 
-splat-requires : tie.Need-splat-requires
-splat-requires c κs = search needs
-
-splat-requires-2 : tie.Need-splat-requires-2
-splat-requires-2 c κs = search needs
+no-box-requires : tie.Need-no-box-requires
+no-box-requires c κs = search needs
 
 returns-2 : tie.Need-returns-2
-unfolding vsplat
-returns-2 c = rw (box-past _ _ (c .before .before .if1 .left), c .splat2 .ensures, c .before .splat .ensures, zero-by-zero)
+returns-2 c = rw (box-past _ _ (c .before .if1 .left), c .no-box .ensures)
 
 pub box-at-spec : {M : Type 1} → statement M
 box-at-spec =
@@ -96,6 +90,5 @@ box-at-spec =
     mul-t28
     shared-slice-read-t30
     returns
-    splat-requires
-    splat-requires-2
+    no-box-requires
     returns-2)

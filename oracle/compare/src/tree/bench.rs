@@ -60,10 +60,28 @@ fn query(rng: &mut Rng, objects: usize) {
         lent.tree = tree;
         let theirs = |args: &[u32; 5]| source::query(asked, vec3(args), f32::MAX, 0);
         let name = format!("query by {by}, {objects}");
-        pair(&name, &points, |args| ask(&mut lent, args), theirs);
+        let times = pair(&name, &points, |args| ask(&mut lent, args), theirs);
+        if tree == 1 {
+            search(&mut lent, &points, times);
+        }
     }
     let [popped, evaluated] = averages(&mut lent, &points);
     println!("    on average {popped:.1} nodes popped, {evaluated:.1} objects evaluated");
+}
+
+/// The search alone: the call less one whose bound is below every distance, which pops the root
+/// and ends.
+fn search(lent: &mut Lent, points: &[[u32; 5]], (ours, theirs): (f64, f64)) {
+    let still: Vec<_> = points
+        .iter()
+        .map(|&[x, y, z, _, mat]| [x, y, z, (-1.0e30f32).to_bits(), mat])
+        .collect();
+    let loaded = alone("    load and test", &still, |args| ask(lent, args));
+    let (search, ratio) = (ours - loaded, (ours - loaded) / theirs);
+    println!(
+        "{:<20} {search:>8.2} {theirs:>8.2} {ratio:>7.2}",
+        "    search alone"
+    );
 }
 
 fn averages(lent: &mut Lent, points: &[[u32; 5]]) -> [f64; 2] {
