@@ -28,6 +28,7 @@ compare sweep root    every f32 from 0 to f32::MAX
 compare sweep acos    every f32 from -1 to 1
 compare plan [PART]   calls on plans, at length (with the feature `plan`)
 compare tree [PART]   trees built, offered and searched, at length (likewise)
+compare stack         bytes of stack that each call uses (likewise)
 compare bench         times, ours beside the Rust's
 compare store FILE    writes the answers that are replayed without Rust";
 
@@ -45,6 +46,11 @@ fn main() -> ExitCode {
         ["tree"] => tree::run(),
         #[cfg(feature = "plan")]
         ["tree", part] => tree::run_one(part),
+        #[cfg(feature = "plan")]
+        ["stack"] => {
+            tree::stack::tell();
+            Ok(())
+        }
         ["bench"] => bench::run(),
         ["store", file] => store::run(file),
         _ => Err(format!("usage:\n{USAGE}")),

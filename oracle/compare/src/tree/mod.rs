@@ -15,6 +15,7 @@ pub mod rules;
 mod search;
 mod shape;
 mod source;
+pub mod stack;
 mod strike;
 pub mod table;
 #[cfg(test)]
@@ -23,11 +24,12 @@ mod tests;
 use crate::gate::{run_parts, Part};
 
 /// What `gate` runs of it.
-pub const GATE: [Part; 4] = [
+pub const GATE: [Part; 5] = [
     ("tree rows", rows::run),
     ("tree builds", || builds::run(300, 20)),
     ("tree offers", || offers::run(6_000)),
     ("tree limits", limits::run),
+    ("stack", stack::run),
 ];
 
 /// The same at length.

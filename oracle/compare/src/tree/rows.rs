@@ -1,6 +1,7 @@
 //! Document 01's rows R1, R2 and R3, through the calls: objects enter, then the tree is built.
 
 use super::rules::TOO_DEEP;
+use super::source::tables;
 use super::table::{Bounds, Node, Tables};
 use crate::judge::DONE;
 use crate::plan::call::PlanCall;
@@ -8,9 +9,10 @@ use crate::plan::check::expect;
 use crate::plan::layout::{NODES_WORDS, ORDER_WORDS};
 use crate::plan::lent::Lent;
 use crate::plan::model::{Piece, Plan, Prim};
-use crate::plan::sound;
+use crate::plan::{sound, source};
 use crate::words;
 use glam::Vec3;
+use interflect::bvh::Bvh;
 use std::ops::RangeInclusive;
 
 pub fn run() -> Result<String, String> {
@@ -29,12 +31,10 @@ pub fn run() -> Result<String, String> {
         must_build("R2", &at(&[x; 5]), 1, &leaf)?;
     }
 
-    let lent = built(&powers(-25..=41), DONE)?;
-    // Leaves of 1 to 4, and one node fewer between them.
-    let nodes = lent.out.word(0);
-    if nodes % 2 == 0 || nodes < 67 / 2 {
-        return Err(format!("R3: {nodes} nodes are no tree of 67 objects"));
-    }
+    let chain = powers(-25..=41);
+    let theirs = Bvh::build(&source::scene(&plan(&chain)).objects);
+    let nodes = theirs.node_count() as u32;
+    must_build("R3", &chain, nodes, &tables(&theirs))?;
     let lent = built(&powers(-26..=41), TOO_DEEP)?;
     let none = Tables::new(&[], &[]);
     same_tables("R3", &lent, &none)?;
@@ -55,23 +55,32 @@ fn node(from: f32, to: f32, [start, count, right]: [u32; 3]) -> Node {
     }
 }
 
-/// Enters spheres of radius 0 and no blend at these places of the x axis, and builds.
+/// Enters such spheres, and builds.
 fn built(xs: &[f32], number: u32) -> Result<Lent, String> {
     let mut lent = Lent::new(&Plan::default(), 3);
     lent.args(&sound::material());
     expect(PlanCall::AddMaterial, &mut lent, DONE)?;
-    for &x in xs {
-        let sphere = Piece {
-            material: 0,
-            blend: 0,
-            prim: Prim::new(0, &words::bits(&[x, 0.0, 0.0, 0.0])),
-            cutters: Vec::new(),
-        };
+    for sphere in plan(xs).objects {
         lent.args(&sphere.args(|| 0));
         expect(PlanCall::AddObject, &mut lent, DONE)?;
     }
     expect(PlanCall::Build, &mut lent, number)?;
     Ok(lent)
+}
+
+/// Spheres of radius 0 and no blend at these places of the x axis.
+pub fn plan(xs: &[f32]) -> Plan {
+    let sphere = |&x: &f32| Piece {
+        material: 0,
+        blend: 0,
+        prim: Prim::new(0, &words::bits(&[x, 0.0, 0.0, 0.0])),
+        cutters: Vec::new(),
+    };
+    Plan {
+        objects: xs.iter().map(sphere).collect(),
+        materials: vec![sound::material()],
+        ..Plan::default()
+    }
 }
 
 fn must_build(row: &str, xs: &[f32], nodes: u32, tables: &Tables) -> Result<(), String> {
