@@ -2,4 +2,3 @@ pub mod Lists
 pub mod Vectors
 pub mod Laws
 pub mod Sound
-pub mod Distance

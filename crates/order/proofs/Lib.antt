@@ -4,5 +4,4 @@ pub mod Rounding
 pub mod Holding
 pub mod Bounds
 pub mod Signs
-pub mod Gaps
 pub mod Roots

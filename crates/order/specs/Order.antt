@@ -1,17 +1,13 @@
--- What the laws of order speak of: numbers, finite values as fractions, bounds, what rounds to what, and the extremes of a list. Definitions only.
+-- What the laws of order speak of: numbers, finite values as fractions, bounds, what rounds to what, and the nearer of two. Definitions only.
 use Prim.Native.Nat.{ℕ, zero, suc, _+_, _*_, _≤_, _<_}
 use mathlib.Core.Path.{_≡_}
 use mathlib.Core.Bool.{Bool, true, false, not, cond}
-use mathlib.Core.List.{List, [], _∷_}
 use lib.Dec.{T}
-use lib.ListN.{length, getD}
 use lib.IntN.{pos}
 use lib.Ieee.{Float, nan, inf, fin, Format, up, round, lt}
 use lib.Ieee.Exact.{HasValue}
 use lib.Ieee.Positive.{den}
 use lib.Ieee.Scale.{finite}
-use Rattle.num.specs.F32.{_⊕_, _⊖_, _⊗_}
-use Rattle.num.specs.Extremes.{fmax, fmin}
 
 -- all but NaN
 abbrev pub number : Float → Bool
@@ -86,29 +82,3 @@ pub record Rounded (f : Format) (r : Float) (p n c : ℕ) : Type 0 where
 -- the nearer of a best so far and one more: the best so far, unless d is below it
 abbrev pub closer : Float → Float → Float
 closer best d = cond (lt d best) d best
-
--- of a list, from a start on
-unfoldable pub fold : (Float → Float → Float) → Float → List Float → Float
-fold op a [] = a
-fold op a (x ∷ xs) = fold op (op a x) xs
-
--- the greatest, the least, and the nearest as a search finds it
-abbrev pub most : Float → List Float → Float
-most = fold fmax
-
-abbrev pub least : Float → List Float → Float
-least = fold fmin
-
-abbrev pub nearest : Float → List Float → Float
-nearest = fold closer
-
--- each number of xs stands in ys
-abbrev pub Covered : Float → List Float → List Float → Type 0
-Covered d xs ys = (i : ℕ) → i < length xs → T (number (getD xs i d)) → (j : ℕ) × (j < length ys) × (getD xs i d ≡ getD ys j d)
-
--- ---- the gap between p and the interval from lo to hi, 0 within it; and a sum of three squares
-abbrev pub gap : Float → Float → Float → Float
-gap p lo hi = fmax (fmax (lo ⊖ p) (p ⊖ hi)) zeroF
-
-abbrev pub squares : Float → Float → Float → Float
-squares x y z = x ⊗ x ⊕ y ⊗ y ⊕ z ⊗ z

@@ -4,6 +4,7 @@ use mathlib.Core.Path.{_≡_, refl, sym, _∙_, ap}
 use mathlib.Core.Bool.{Bool, true, false, cond, _||_}
 use mathlib.Core.List.{List, _++_}
 use native.Mathlib.Nat.{sub-zero}
+use native.Mathlib.Omega.{arith}
 use lib.ListN.{length, take, replicate, length-replicate}
 use lib.Dec.{eqb}
 use lib.Ieee.{Float}
@@ -13,7 +14,8 @@ use Rattle.scene.specs.Model.{countObjects}
 use Rattle.sound.specs.Sound.{objectsNumber}
 use Rattle.sound.proofs.Numbers.{lower-zero}
 use Rattle.boxes.specs.Boxes.{boxesOf}
-use Rattle.tree.specs.Check.{judgeOf, offeredNumber}
+use Rattle.tree.specs.declared.Sub.{Sub}
+use Rattle.tree.specs.Check.{judgeOf, isGood, refusedNumber, offeredNumber}
 use Rattle.build.specs.declared.Built.{Built}
 use Rattle.build.specs.Encode.{low32}
 use Rattle.build.specs.Tables.{builtOf, sizeOf, lowEnough, nodesWith, orderWith, Builds}
@@ -78,6 +80,11 @@ module _ (before : ℕ) (w : List ℕ) (f : List Float) where
       let num : number ≡ n = number-refused (λ h. e (en ∙ h)) ∙ sym en in
       (rw (num, ne-eqb n 0 e), rw (num, ne-eqb n 0 e) z, rw (num, ne-eqb n 0 e) y)
 
+-- what is refused gets 6 or 7
+not-zero : (b : Bool) → _≡_ {A = ℕ} (cond b 7 6) 0 → ⊥
+not-zero true e = let z : _≡_ {A = ℕ} 7 0 = e in omega arith
+not-zero false e = let z : _≡_ {A = ℕ} 6 0 = e in omega arith
+
 module _ (before : ℕ) (nw : List ℕ) (nf : List Float) (o w : List ℕ) (f : List Float) where
   abbrev given : ℕ
   given = lower before (objectsNumber w f)
@@ -85,16 +92,18 @@ module _ (before : ℕ) (nw : List ℕ) (nf : List Float) (o w : List ℕ) (f : 
   abbrev Answers : Raised → Type 0
   Answers r = r ≡ offeredAnswer (offerNumber before nw nf o w f) nw nf o w f
 
-  pub offers : (k s n m : ℕ) → length nw ≡ 4599 → n ≡ given → n ≡ 0 → k ≡ offeredNumber nw nf o (boxesOf w f) → k ≡ 0 → s ≡ offeredSize nw nf o w f → m ≡ low32 s
+  pub offers : (s : Sub) (k n m : ℕ) → length nw ≡ 4599 → n ≡ given → n ≡ 0 → s ≡ judgeOf 64 nw nf o (boxesOf w f) → isGood s ≡ true → k ≡ sizeIn s → m ≡ low32 k
       → Answers (record { number = 0; nodes = m; stores = true })
-  unfolding offerNumber offeredAnswer
-  offers k s n m lw en e ek ez es em =
-      let size : m ≡ offeredSize nw nf o w f = em ∙ ap low32 es ∙ fits-word _ (offered-few nw nf o w f lw (lower-zero before (objectsNumber w f) .0 (sym en ∙ e) .1)) in
-      rw (eq-eqb _ 0 (sym en ∙ e), sym ek ∙ ez, size)
+  unfolding offerNumber offeredNumber offeredAnswer
+  offers s k n m lw en e es good ek em =
+      let size : m ≡ offeredSize nw nf o w f = em ∙ ap low32 (ek ∙ ap sizeIn es) ∙ fits-word _ (offered-few nw nf o w f lw (lower-zero before (objectsNumber w f) .0 (sym en ∙ e) .1)) in
+      rw (eq-eqb _ 0 (sym en ∙ e), ap isGood (sym es) ∙ good, size)
 
-  pub offers-bad : (k n : ℕ) → n ≡ given → n ≡ 0 → k ≡ offeredNumber nw nf o (boxesOf w f) → (k ≡ 0 → ⊥) → Answers (record { number = k; nodes = 0; stores = false })
-  unfolding offerNumber offeredAnswer
-  offers-bad k n en e ek h = rw (eq-eqb _ 0 (sym en ∙ e), sym ek, ne-eqb k 0 h)
+  pub offers-bad : (s : Sub) (k n : ℕ) → n ≡ given → n ≡ 0 → s ≡ judgeOf 64 nw nf o (boxesOf w f) → isGood s ≡ false → k ≡ refusedNumber nw nf o (boxesOf w f)
+      → Answers (record { number = k; nodes = 0; stores = false })
+  unfolding offerNumber offeredNumber offeredAnswer
+  offers-bad s k n en e es bad ek =
+      rw (eq-eqb _ 0 (sym en ∙ e), ap isGood (sym es) ∙ bad, sym ek) (rw (ne-eqb k 0 (λ z. not-zero (isGood (judgeOf 256 nw nf o (boxesOf w f))) (sym ek ∙ z))))
 
   pub offers-not : (n : ℕ) → n ≡ given → (n ≡ 0 → ⊥) → Answers (record { number = n; nodes = 0; stores = false })
   unfolding offerNumber offeredAnswer

@@ -85,14 +85,15 @@ fn raise_offered(
     let _words: &[u32] = nw;
     let n = rules::lower(before, sound::objects_number(ws, fs));
     if n == 0 {
-        let k = tree::offered_number(nw, nf, ow, ws, fs);
-        if k == 0 {
+        let s = tree::judge(nw, nf, ow, ws, fs, 64);
+        if tree::is_good(s) {
             return Raised {
                 number: 0,
-                nodes: build::narrow(size_in(tree::judge(nw, nf, ow, ws, fs, 64))),
+                nodes: build::narrow(size_in(s)),
                 stores: true,
             };
         }
+        let k = tree::refused_number(nw, nf, ow, ws, fs);
         return Raised {
             number: k,
             nodes: 0,

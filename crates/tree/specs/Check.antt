@@ -92,9 +92,12 @@ abbrev pub isGood : Sub → Bool
 isGood Bad = false
 isGood (Good next end) = true
 
--- "6: an offered tree breaks a tree rule other than depth; 7: meets all but depth"
+-- "6: an offered tree breaks a tree rule other than depth; 7: meets all but depth", of one that is not good with 64 levels
+abbrev pub refusedNumber : List ℕ → List Float → List ℕ → List Aabb → ℕ
+refusedNumber w f o bs = cond (isGood (judgeOf 256 w f o bs)) tooDeep badTree
+
 unfoldable pub offeredNumber : List ℕ → List Float → List ℕ → List Aabb → ℕ
-offeredNumber w f o bs = cond (isGood (judgeOf 64 w f o bs)) 0 (cond (isGood (judgeOf 256 w f o bs)) tooDeep badTree)
+offeredNumber w f o bs = cond (isGood (judgeOf 64 w f o bs)) 0 (refusedNumber w f o bs)
 
 -- "node or order tables that break a tree rule count as no tree (8)"
 unfoldable pub standingNumber : List ℕ → List Float → List ℕ → List Aabb → ℕ

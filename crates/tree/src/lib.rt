@@ -5,7 +5,7 @@ ghost use lib.ListN.{length, getD};
 ghost use Rattle.boxes.specs.Boxes.{boxesOf};
 ghost use Rattle.scene.specs.Model.{wordOf, countObjects};
 ghost use Rattle.tree.specs.Nodes.{nodeAt};
-ghost use Rattle.tree.specs.Check.{heldAt, holdsAll, leafWords, leafOk, hullOk, kindOf, checkOf, orderOk, wholeOf, judgeOf, isGood, offeredNumber, standingNumber};
+ghost use Rattle.tree.specs.Check.{heldAt, holdsAll, leafWords, leafOk, hullOk, kindOf, checkOf, orderOk, wholeOf, judgeOf, isGood, refusedNumber, standingNumber};
 use sdf::Aabb;
 use vec::Vec3;
 
@@ -277,7 +277,7 @@ pub fn judge(
     Sub::Bad
 }
 
-fn is_good(s: Sub) -> bool
+pub fn is_good(s: Sub) -> bool
     ensures { λ r. ⌜ r ≡ isGood s ⌝ }
 {
     match s {
@@ -286,19 +286,16 @@ fn is_good(s: Sub) -> bool
     }
 }
 
-// What an offered tree gets: 6 for a rule other than depth, 7 for depth alone.
-pub fn offered_number(
+// What an offered tree gets that is not good with 64 levels: 6 for a rule other than depth, 7 for depth alone.
+pub fn refused_number(
     nw: &[u32; 4599],
     nf: &[f32; 4599],
     ow: &[u32; 256],
     ws: &[u32; 22288],
     fs: &[f32; 22288],
 ) -> u32
-    ensures { λ r. ⌜ r ≡ offeredNumber (now (nw .entry)) (now (nf .entry)) (now (ow .entry)) (boxesOf (now (ws .entry)) (now (fs .entry))) ⌝ }
+    ensures { λ r. ⌜ r ≡ refusedNumber (now (nw .entry)) (now (nf .entry)) (now (ow .entry)) (boxesOf (now (ws .entry)) (now (fs .entry))) ⌝ }
 {
-    if is_good(judge(nw, nf, ow, ws, fs, 64)) {
-        return 0;
-    }
     if is_good(judge(nw, nf, ow, ws, fs, 256)) {
         return 7;
     }

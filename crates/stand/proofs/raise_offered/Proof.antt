@@ -1,7 +1,6 @@
 -- `stand::raise_offered` meets its contract, by the cases of its number. Assumes nothing.
-use mathlib.Core.Path.{_∙_, ap}
+use mathlib.Core.Path.{sym, _∙_, ap}
 use Rattle.rules.specs.Refusals.{lower}
-use Rattle.stand.specs.Stand.{sizeIn}
 use Rattle.stand.proofs.Raises.{offers, offers-bad, offers-not}
 use borrow.Author.Needs.{needs}
 use Rattle.stand.proofs.raise_offered.Statement.{statement}
@@ -13,11 +12,11 @@ objects-number-requires c κs = search needs
 lower-requires : tie.Need-lower-requires
 lower-requires c κs = search needs
 
-offered-number-requires : tie.Need-offered-number-requires
-offered-number-requires c κs = search needs
-
 judge-requires : tie.Need-judge-requires
 judge-requires c κs = search needs
+
+is-good-requires : tie.Need-is-good-requires
+is-good-requires c κs = search needs
 
 size-in-requires : tie.Need-size-in-requires
 size-in-requires c κs = search needs
@@ -26,10 +25,13 @@ narrow-requires : tie.Need-narrow-requires
 narrow-requires c κs = search needs
 
 returns : tie.Need-returns
-returns c = offers _ _ _ _ _ _ _ _ _ _ (c .before .before .before .before .before .before .before .before .-words .given .0) ((c .before .before .before .before .before .before .lower .ensures) ∙ ap (lower _) (c .before .before .before .before .before .before .before .objects-number .ensures)) (c .before .before .before .before .before .if1 .taken) (c .before .before .before .before .offered-number .ensures) (c .before .before .before .if2 .taken) ((c .before .size-in .ensures) ∙ ap sizeIn (c .before .before .judge .ensures)) (c .narrow .ensures)
+returns c = offers _ _ _ _ _ _ _ _ _ _ (c .before .before .before .before .before .before .before .before .-words .given .0) ((c .before .before .before .before .before .before .lower .ensures) ∙ ap (lower _) (c .before .before .before .before .before .before .before .objects-number .ensures)) (c .before .before .before .before .before .if1 .taken) (c .before .before .before .before .judge .ensures) (sym (c .before .before .before .is-good .ensures) ∙ (c .before .before .if2 .taken)) (c .before .size-in .ensures) (c .narrow .ensures)
+
+refused-number-requires : tie.Need-refused-number-requires
+refused-number-requires c κs = search needs
 
 returns-2 : tie.Need-returns-2
-returns-2 c = offers-bad _ _ _ _ _ _ _ _ ((c .before .before .before .lower .ensures) ∙ ap (lower _) (c .before .before .before .before .objects-number .ensures)) (c .before .before .if1 .taken) (c .before .offered-number .ensures) (c .if2 .left)
+returns-2 c = offers-bad _ _ _ _ _ _ _ _ _ ((c .before .before .before .before .before .lower .ensures) ∙ ap (lower _) (c .before .before .before .before .before .before .objects-number .ensures)) (c .before .before .before .before .if1 .taken) (c .before .before .before .judge .ensures) (sym (c .before .before .is-good .ensures) ∙ (c .before .if2 .left)) (c .refused-number .ensures)
 
 returns-3 : tie.Need-returns-3
 returns-3 c = offers-not _ _ _ _ _ _ _ ((c .before .lower .ensures) ∙ ap (lower _) (c .before .before .objects-number .ensures)) (c .if1 .left)
@@ -40,10 +42,11 @@ raise-offered-spec =
     (tie.spec
     objects-number-requires
     lower-requires
-    offered-number-requires
     judge-requires
+    is-good-requires
     size-in-requires
     narrow-requires
     returns
+    refused-number-requires
     returns-2
     returns-3)
