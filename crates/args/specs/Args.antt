@@ -5,11 +5,11 @@ use mathlib.Core.List.{List}
 use lib.Dec.{leb}
 use lib.Ieee.{Float}
 use Rattle.words.specs.Lists.{listFrom}
-use Rattle.rules.specs.Refusals.{noRoom, lower}
-use Rattle.rules.specs.Prims.{primNumber}
-use Rattle.scene.specs.declared.Head.{Head}
-use Rattle.scene.specs.Model.{wordOf, primOf, headAt}
-use Rattle.sound.specs.Sound.{ownNumber, lowest}
+use Rattle.refusals.specs.Refusals.{noRoom, lower}
+use Rattle.refusals.specs.Prims.{primNumber}
+use Rattle.plan.specs.declared.Head.{Head}
+use Rattle.plan.specs.Model.{wordOf, primOf, headAt}
+use Rattle.plan_test.specs.Sound.{ownNumber, lowest}
 
 -- the cutter in row r
 unfoldable pub argCutter : List ℕ → List Float → ℕ → ℕ

@@ -3,13 +3,13 @@ use Prim.Native.Nat.{ℕ, _+_}
 use mathlib.Core.Bool.{Bool, not, _&&_, _||_}
 use mathlib.Core.List.{List}
 use lib.Ieee.{Float, eq}
-use Rattle.num.specs.F32.{f0, f1}
+use Rattle.scalar.specs.F32.{f0, f1}
 use Rattle.vec.specs.declared.Vec3.{Vec3}
 use Rattle.vec.specs.Vec.{vsub, vcross, vlength}
-use Rattle.rules.specs.Refusals.{badNumber, noExtent, unless, lower}
-use Rattle.rules.specs.Ranges.{far, upTo, withinUpTo, coordinates}
-use Rattle.rules.specs.Prims.{noLength}
-use Rattle.scene.specs.Model.{floatOf, vecOf}
+use Rattle.refusals.specs.Refusals.{badNumber, noExtent, unless, lower}
+use Rattle.refusals.specs.Ranges.{far, upTo, withinUpTo, coordinates}
+use Rattle.refusals.specs.Prims.{noLength}
+use Rattle.plan.specs.Model.{floatOf, vecOf}
 use Rattle.args.specs.declared.Material.{Material}
 use Rattle.args.specs.declared.QuadLight.{QuadLight}
 

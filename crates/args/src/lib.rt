@@ -4,10 +4,10 @@ ghost use Prim.Native.Nat.{_+_, _*_};
 ghost use lib.ListN.{getD};
 ghost use Rattle.args.specs.Records.{materialOf, materialNumber, dark, lightOf, lightNumber};
 ghost use Rattle.args.specs.Args.{argCutter, argCutters, argsNumber};
-ghost use Rattle.scene.specs.Model.{floatOf, vecOf, primOf, headAt};
+ghost use Rattle.plan.specs.Model.{floatOf, vecOf, primOf, headAt};
 ghost use Rattle.words.specs.Lists.{listFrom};
-ghost use Rattle.sound.specs.Sound.{lowest};
-use scene::Head;
+ghost use Rattle.plan_test.specs.Sound.{lowest};
+use plan::Head;
 use sdf::Shape;
 use vec::Vec3;
 
@@ -29,13 +29,13 @@ pub struct QuadLight {
 pub fn material_number(m: Material) -> u32
     ensures { λ r. ⌜ r ≡ materialNumber m ⌝ }
 {
-    rules::unless(
+    refusals::unless(
         1,
-        rules::both(
-            rules::within_up_to(m.albedo, 1.0),
-            rules::both(
-                rules::up_to(m.roughness, 1.0),
-                rules::up_to(m.metallic, 1.0),
+        refusals::both(
+            refusals::within_up_to(m.albedo, 1.0),
+            refusals::both(
+                refusals::up_to(m.roughness, 1.0),
+                refusals::up_to(m.metallic, 1.0),
             ),
         ),
     )
@@ -45,10 +45,10 @@ pub fn material_number(m: Material) -> u32
 fn dark(e1: Vec3, e2: Vec3) -> bool
     ensures { λ r. ⌜ r ≡ dark e1 e2 ⌝ }
 {
-    if rules::no_length(e1) {
+    if refusals::no_length(e1) {
         return true;
     }
-    if rules::no_length(e2) {
+    if refusals::no_length(e2) {
         return true;
     }
     e1.cross(e2).length() == 0.0
@@ -57,22 +57,22 @@ fn dark(e1: Vec3, e2: Vec3) -> bool
 pub fn light_number(l: QuadLight) -> u32
     ensures { λ r. ⌜ r ≡ lightNumber l ⌝ }
 {
-    let corners = rules::both(
-        rules::within(l.v0, 10000.0),
-        rules::both(
-            rules::within(l.v1, 10000.0),
-            rules::both(
-                rules::within(l.v2, 10000.0),
-                rules::both(
-                    rules::within(l.v3, 10000.0),
-                    rules::within_up_to(l.emit, 10000.0),
+    let corners = refusals::both(
+        refusals::within(l.v0, 10000.0),
+        refusals::both(
+            refusals::within(l.v1, 10000.0),
+            refusals::both(
+                refusals::within(l.v2, 10000.0),
+                refusals::both(
+                    refusals::within(l.v3, 10000.0),
+                    refusals::within_up_to(l.emit, 10000.0),
                 ),
             ),
         ),
     );
-    rules::lower(
-        rules::unless(1, corners),
-        rules::unless(4, !dark(l.v1.sub(l.v0), l.v3.sub(l.v0))),
+    refusals::lower(
+        refusals::unless(1, corners),
+        refusals::unless(4, !dark(l.v1.sub(l.v0), l.v3.sub(l.v0))),
     )
 }
 
@@ -118,7 +118,7 @@ fn prim_of(aw: &[u32], af: &[f32], r: u32, k: u32) -> Shape
     ensures { λ s. ⌜ s ≡ primOf (now (aw .entry)) (now (af .entry)) (16 * r + k) ⌝ }
 {
     let at = 16 * (r as usize) + k as usize;
-    rules::shape_of(
+    refusals::shape_of(
         word_of(aw, at),
         Vec3 {
             x: float_of(af, at + 1),
@@ -153,7 +153,7 @@ fn arg_head(aw: &[u32], af: &[f32]) -> Head
 fn arg_cutter(aw: &[u32], af: &[f32], r: u32) -> u32
     ensures { λ n. ⌜ n ≡ argCutter (now (aw .entry)) (now (af .entry)) r ⌝ }
 {
-    rules::prim_number(word_of(aw, 16 * (r as usize)), prim_of(aw, af, r, 0))
+    refusals::prim_number(word_of(aw, 16 * (r as usize)), prim_of(aw, af, r, 0))
 }
 
 // The n cutters from row 1 on.
@@ -163,7 +163,7 @@ fn lowest_cutter(aw: &[u32], af: &[f32], n: u32) -> u32
     let mut least: u32 = 0;
     let mut j: u32 = 0;
     while j < n {
-        least = rules::lower(least, arg_cutter(aw, af, 1 + j));
+        least = refusals::lower(least, arg_cutter(aw, af, 1 + j));
         j += 1;
     }
     least
@@ -188,8 +188,8 @@ pub fn args_number(planes: bool, materials: u32, aw: &[u32], af: &[f32], bytes: 
         return 2;
     }
     let h = arg_head(aw, af);
-    rules::lower(
-        sound::own_number(planes, materials, h),
+    refusals::lower(
+        plan_test::own_number(planes, materials, h),
         arg_cutters(aw, af, bytes, h.cutters),
     )
 }

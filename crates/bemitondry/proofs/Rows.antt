@@ -6,19 +6,19 @@ use lib.ListN.{replicate}
 use lib.IntN.{ℤ, pos, negsuc}
 use lib.Ieee.{Float, binary32, ofInt, ofBits, neg, add, sub, mul, div, lt, eq}
 use Rattle.root.specs.Root.{rootOf}
-use Rattle.num.specs.F32.{f0, fhalf, f1}
-use Rattle.num.specs.Extremes.{fmin, fmax, clampOf}
-use Rattle.num.specs.Signs.{absOf, signumOf}
+use Rattle.scalar.specs.F32.{f0, fhalf, f1}
+use Rattle.scalar.specs.Extremes.{fmin, fmax, clampOf}
+use Rattle.scalar.specs.Signs.{absOf, signumOf}
 use Rattle.vec.specs.declared.Vec3.{Vec3}
 use Rattle.vec.specs.Vec.{vsplat, vadd, vsub, vscale, vdot, vlength, vmax, vabs}
 use Rattle.sdf.specs.declared.Shape.{Shape}
 use Rattle.sdf.specs.declared.Shape.the-variants.{Sphere, RoundBox, Plane, Capsule, Torus, Cylinder, Cone}
 use Rattle.words.specs.Lists.{listFrom}
 use Rattle.words.specs.Words.{floatsOf}
-use Rattle.scene.specs.declared.Head.{Head}
-use Rattle.scene.specs.declared.DistHit.{DistHit}
-use Rattle.scene.specs.Model.{Piece, piecesFrom}
-use Rattle.scene.specs.Nearest.{cutBy, carve, pieceDist, nearest, listHit, distMatList}
+use Rattle.plan.specs.declared.Head.{Head}
+use Rattle.plan.specs.declared.DistHit.{DistHit}
+use Rattle.plan.specs.Model.{Piece, piecesFrom}
+use Rattle.plan.specs.Nearest.{cutBy, carve, pieceDist, nearest, listHit, distMatList}
 use Rattle.sdf.specs.Shapes.{sphere, roundBox, plane, capsule, torus, beyond, cylinderSquare, cylinderBody, cylinder, coneEnd, coneFoot, coneSign, coneAt, coneBody, cone, distOf}
 
 -- what a row works out and what it should be: the floats, then the whole numbers

@@ -11,25 +11,25 @@ use lib.Ieee.{Float, ofBits, neg, lt, le, eq}
 use denote.Floats.{passes}
 use borrow.Author.Tests.{eqb-true, eqb-false}
 use native.Mathlib.Omega.{arith}
-use Rattle.num.specs.Ranges.{between, magnitude}
+use Rattle.scalar.specs.Ranges.{between, magnitude}
 use Rattle.vec.specs.declared.Vec3.{Vec3}
-use Rattle.rules.specs.Refusals.{unless, lower}
-use Rattle.rules.specs.Ranges.{greatest, farthest, within}
-use Rattle.scene.specs.declared.DistHit.{DistHit}
-use Rattle.scene.specs.Model.{Piece, countObjects, planesOf}
-use Rattle.scene.specs.Nearest.{pieceDist, closer, nearer, nearest, nothing}
-use Rattle.sound.specs.Sound.{objectsNumber, solidsOf}
-use Rattle.sound.proofs.Numbers.{unless-zero, lower-zero}
-use Rattle.sound.proofs.Exact.{objects-exact, solids-exact}
-use Rattle.order.proofs.Order.{le-right, lt-left, number-eq}
-use Rattle.boxes.specs.Boxes.{boxesOf}
-use Rattle.boxes.proofs.Lists.{box-count}
-use Rattle.tree.specs.Rules.{Tree, Accepted, MeetsRules}
-use Rattle.tree.specs.Check.{standingNumber}
-use Rattle.tree.proofs.Exact.{standing-exact}
-use Rattle.search.specs.Search.{searched, searchOf}
-use Rattle.search.specs.Demand.{Demand}
-use Rattle.search.proofs.Demand.{demand-three, search-empty}
+use Rattle.refusals.specs.Refusals.{unless, lower}
+use Rattle.refusals.specs.Ranges.{greatest, farthest, within}
+use Rattle.plan.specs.declared.DistHit.{DistHit}
+use Rattle.plan.specs.Model.{Piece, countObjects, planesOf}
+use Rattle.plan.specs.Nearest.{pieceDist, closer, nearer, nearest, nothing}
+use Rattle.plan_test.specs.Sound.{objectsNumber, solidsOf}
+use Rattle.plan_test.proofs.Numbers.{unless-zero, lower-zero}
+use Rattle.plan_test.proofs.Exact.{objects-exact, solids-exact}
+use Rattle.float_order.proofs.Order.{le-right, lt-left, number-eq}
+use Rattle.bvh_boxes.specs.Boxes.{boxesOf}
+use Rattle.bvh_boxes.proofs.Lists.{box-count}
+use Rattle.bvh_rules.specs.Rules.{Tree, Accepted, MeetsRules}
+use Rattle.bvh_rules.specs.Check.{standingNumber}
+use Rattle.bvh_rules.proofs.Exact.{standing-exact}
+use Rattle.bvh_search.specs.Search.{searched, searchOf}
+use Rattle.bvh_search.specs.Demand.{Demand}
+use Rattle.bvh_search.proofs.Demand.{demand-three, search-empty}
 use Rattle.bemitondry.specs.Calls.{queryNumber, distMatNumber, withTree}
 
 -- a number of a tree is 0 where both parts are

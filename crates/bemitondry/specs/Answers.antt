@@ -5,10 +5,10 @@ use lib.Dec.{eqb}
 use lib.Ieee.{Float}
 use Rattle.sdf.specs.declared.Bounds.{Bounds}
 use Rattle.sdf.specs.declared.Bounds.the-variants.{Within, Unbounded}
-use Rattle.rules.specs.Refusals.{wrongList, lower}
+use Rattle.refusals.specs.Refusals.{wrongList, lower}
 use Rattle.bemitondry.specs.declared.Scalar.{Scalar}
 use Rattle.bemitondry.specs.declared.Scalar.the-variants as scalar
-use Rattle.scene.specs.declared.DistHit.{DistHit}
+use Rattle.plan.specs.declared.DistHit.{DistHit}
 use Rattle.bemitondry.specs.declared.Found.{Found}
 use Rattle.bemitondry.specs.declared.Found.the-variants as found
 use Rattle.bemitondry.specs.declared.Boxed.{Boxed}

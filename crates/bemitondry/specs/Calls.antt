@@ -5,25 +5,25 @@ use mathlib.Core.List.{List}
 use lib.Dec.{eqb}
 use lib.Ieee.{Float}
 use Rattle.root.specs.Root.{rootOf}
-use Rattle.num.specs.F32.{f1}
-use Rattle.num.specs.Ranges.{magnitude}
-use Rattle.num.specs.Acos.{acosOf}
+use Rattle.scalar.specs.F32.{f1}
+use Rattle.scalar.specs.Ranges.{magnitude}
+use Rattle.scalar.specs.Acos.{acosOf}
 use Rattle.vec.specs.declared.Vec3.{Vec3}
 use Rattle.sdf.specs.declared.Shape.{Shape}
 use Rattle.sdf.specs.Shapes.{distOf}
 use Rattle.sdf.specs.Boxes.{boundsOf}
-use Rattle.rules.specs.Refusals.{badNumber, unless, lower}
-use Rattle.rules.specs.Ranges.{greatest, farthest, upTo, within}
-use Rattle.rules.specs.Prims.{primNumber}
+use Rattle.refusals.specs.Refusals.{badNumber, unless, lower}
+use Rattle.refusals.specs.Ranges.{greatest, farthest, upTo, within}
+use Rattle.refusals.specs.Prims.{primNumber}
 use Rattle.bemitondry.specs.declared.Scalar.{Scalar}
 use Rattle.bemitondry.specs.declared.Boxed.{Boxed}
-use Rattle.scene.specs.declared.DistHit.{DistHit}
-use Rattle.scene.specs.Model.{countObjects, planesOf}
-use Rattle.scene.specs.Nearest.{nearest, nothing, listHit, distMatList}
-use Rattle.sound.specs.Sound.{objectsNumber, solidsOf}
-use Rattle.boxes.specs.Boxes.{boxesOf}
-use Rattle.tree.specs.Check.{standingNumber}
-use Rattle.search.specs.Search.{searchOf}
+use Rattle.plan.specs.declared.DistHit.{DistHit}
+use Rattle.plan.specs.Model.{countObjects, planesOf}
+use Rattle.plan.specs.Nearest.{nearest, nothing, listHit, distMatList}
+use Rattle.plan_test.specs.Sound.{objectsNumber, solidsOf}
+use Rattle.bvh_boxes.specs.Boxes.{boxesOf}
+use Rattle.bvh_rules.specs.Check.{standingNumber}
+use Rattle.bvh_search.specs.Search.{searchOf}
 use Rattle.bemitondry.specs.declared.Found.{Found}
 use Rattle.bemitondry.specs.Answers.{scalarOf, boxedOf, foundOf}
 

@@ -2,8 +2,8 @@
 ghost use mathlib.Core.Path.{_≡_};
 ghost use Rattle.bemitondry.specs.Answers.{scalarOf, boxedOf, foundOf};
 ghost use Rattle.bemitondry.specs.Calls.{rootAnswer, acosAnswer, primDistAnswer, primBoundsAnswer, queryNumber, queryAnswer, withTree, queryTreeAnswer, distMatNumber, distMatAnswer, distMatTree, distMatTreeAnswer};
-ghost use Rattle.rules.specs.Prims.{shapeOf};
-use scene::DistHit;
+ghost use Rattle.refusals.specs.Prims.{shapeOf};
+use plan::DistHit;
 use sdf::Aabb;
 use sdf::Bounds;
 use vec::Vec3;
@@ -44,7 +44,7 @@ fn boxed_of(n: u32, b: Bounds) -> Boxed
             }
             Boxed::Refused(n)
         }
-        Bounds::Unbounded => Boxed::Refused(rules::lower(n, 5)),
+        Bounds::Unbounded => Boxed::Refused(refusals::lower(n, 5)),
     }
 }
 
@@ -53,7 +53,7 @@ pub fn root(x: f32) -> Scalar
     ensures { λ r. ⌜ r ≡ rootAnswer x ⌝ }
 {
     scalar_of(
-        rules::unless(1, rules::up_to(x, 3.4028235e38)),
+        refusals::unless(1, refusals::up_to(x, 3.4028235e38)),
         root::root(x),
     )
 }
@@ -62,17 +62,20 @@ pub fn root(x: f32) -> Scalar
 pub fn acos(x: f32) -> Scalar
     ensures { λ r. ⌜ r ≡ acosAnswer x ⌝ }
 {
-    scalar_of(rules::unless(1, num::magnitude(x, 1.0)), num::acos(x))
+    scalar_of(
+        refusals::unless(1, scalar::magnitude(x, 1.0)),
+        scalar::acos(x),
+    )
 }
 
 // The distance from p of a primitive: its kind and its eight floats, a the first three, b the next three, then u and v.
 pub fn prim_dist(kind: u32, a: Vec3, b: Vec3, u: f32, v: f32, p: Vec3) -> Scalar
     ensures { λ r. ⌜ r ≡ primDistAnswer kind (shapeOf kind a b u v) p ⌝ }
 {
-    let s = rules::shape_of(kind, a, b, u, v);
-    let n = rules::lower(
-        rules::prim_number(kind, s),
-        rules::unless(1, rules::within(p, 200000.0)),
+    let s = refusals::shape_of(kind, a, b, u, v);
+    let n = refusals::lower(
+        refusals::prim_number(kind, s),
+        refusals::unless(1, refusals::within(p, 200000.0)),
     );
     scalar_of(n, s.dist(p))
 }
@@ -80,21 +83,24 @@ pub fn prim_dist(kind: u32, a: Vec3, b: Vec3, u: f32, v: f32, p: Vec3) -> Scalar
 pub fn prim_bounds(kind: u32, a: Vec3, b: Vec3, u: f32, v: f32) -> Boxed
     ensures { λ r. ⌜ r ≡ primBoundsAnswer kind (shapeOf kind a b u v) ⌝ }
 {
-    let s = rules::shape_of(kind, a, b, u, v);
-    boxed_of(rules::prim_number(kind, s), s.bounds())
+    let s = refusals::shape_of(kind, a, b, u, v);
+    boxed_of(refusals::prim_number(kind, s), s.bounds())
 }
 
 // What a query gets: `before` is a number that applies already.
 fn query_number(before: u32, ws: &[u32; 22288], fs: &[f32; 22288], p: Vec3, bound: f32) -> u32
     ensures { λ r. ⌜ r ≡ queryNumber before (now (ws .entry)) (now (fs .entry)) p bound ⌝ }
 {
-    let given = rules::both(
-        rules::within(p, 200000.0),
-        num::magnitude(bound, 3.4028235e38),
+    let given = refusals::both(
+        refusals::within(p, 200000.0),
+        scalar::magnitude(bound, 3.4028235e38),
     );
-    rules::lower(
+    refusals::lower(
         before,
-        rules::lower(rules::unless(1, given), sound::objects_number(ws, fs)),
+        refusals::lower(
+            refusals::unless(1, given),
+            plan_test::objects_number(ws, fs),
+        ),
     )
 }
 
@@ -112,7 +118,7 @@ pub fn query_list(
     let n = query_number(before, ws, fs, p, bound);
     if n == 0 {
         return Found::Is(
-            scene::query_linear(ws, fs, p, DistHit { d: bound, mat }),
+            plan::query_linear(ws, fs, p, DistHit { d: bound, mat }),
             0,
             ws[3],
         );
@@ -132,7 +138,7 @@ fn with_tree(
     ensures { λ r. ⌜ r ≡ withTree n (now (nw .entry)) (now (nf .entry)) (now (ow .entry)) (now (ws .entry)) (now (fs .entry)) ⌝ }
 {
     if n == 0 {
-        return tree::standing_number(nw, nf, ow, ws, fs);
+        return bvh_rules::standing_number(nw, nf, ow, ws, fs);
     }
     n
 }
@@ -153,7 +159,7 @@ pub fn query_tree(
 {
     let n = with_tree(query_number(before, ws, fs, p, bound), nw, nf, ow, ws, fs);
     if n == 0 {
-        let s = search::search(nw, nf, ow, ws, fs, p, DistHit { d: bound, mat });
+        let s = bvh_search::search(nw, nf, ow, ws, fs, p, DistHit { d: bound, mat });
         let hit = s.hit;
         return Found::Is(hit, s.popped, s.evaluated);
     }
@@ -163,10 +169,10 @@ pub fn query_tree(
 fn dist_mat_number(before: u32, ws: &[u32; 22288], fs: &[f32; 22288], p: Vec3) -> u32
     ensures { λ r. ⌜ r ≡ distMatNumber before (now (ws .entry)) (now (fs .entry)) p ⌝ }
 {
-    let s = sound::judge_solids(ws, fs);
-    rules::lower(
+    let s = plan_test::judge_solids(ws, fs);
+    refusals::lower(
         before,
-        rules::lower(rules::unless(1, rules::within(p, 200000.0)), s.number),
+        refusals::lower(refusals::unless(1, refusals::within(p, 200000.0)), s.number),
     )
 }
 
@@ -176,7 +182,7 @@ pub fn dist_mat_list(before: u32, ws: &[u32; 22288], fs: &[f32; 22288], p: Vec3)
 {
     let n = dist_mat_number(before, ws, fs, p);
     if n == 0 {
-        return Found::Is(scene::dist_mat_list(ws, fs, p), 0, 0);
+        return Found::Is(plan::dist_mat_list(ws, fs, p), 0, 0);
     }
     Found::Refused(n)
 }
@@ -196,8 +202,8 @@ fn dist_mat_by_tree(
         d: 3.4028235e38,
         mat: 0,
     };
-    let planes = scene::nearest(ws, fs, 65, ws[1], p, none);
-    let s = search::search(nw, nf, ow, ws, fs, p, planes);
+    let planes = plan::nearest(ws, fs, 65, ws[1], p, none);
+    let s = bvh_search::search(nw, nf, ow, ws, fs, p, planes);
     s.hit
 }
 

@@ -8,11 +8,11 @@ use lib.ListN.{length, getD, replicate, length-replicate}
 use lib.Dec.{eqb}
 use lib.Ieee.{Float, binary32, ofBits}
 use Rattle.words.specs.Words.{wordsOf, floatsOf, withWords}
-use Rattle.rules.specs.Refusals.{lower}
-use Rattle.sound.specs.Sound.{solidsOf}
-use Rattle.entry.specs.declared.Added.{Added}
-use Rattle.entry.specs.declared.Added.the-variants.{Refused, Done}
-use Rattle.entry.specs.Entry.{addedOf, countOf, pieceNumber, pieceLeft, AddsPiece}
+use Rattle.refusals.specs.Refusals.{lower}
+use Rattle.plan_test.specs.Sound.{solidsOf}
+use Rattle.plan_entry.specs.declared.Added.{Added}
+use Rattle.plan_entry.specs.declared.Added.the-variants.{Refused, Done}
+use Rattle.plan_entry.specs.Entry.{addedOf, countOf, pieceNumber, pieceLeft, AddsPiece}
 use Rattle.lent.specs.Tables.{planWords, planFloats}
 use Rattle.enter.specs.Enter.{shortNumber, argWords, argFloats, accepted, Enters, pieceNo, pieceLeftIn, EntersPiece}
 

@@ -7,13 +7,13 @@ use lib.ListN.{length, getD, drop, replicate}
 use lib.Dec.{leb, eqb}
 use lib.Ieee.{Float}
 use Rattle.words.specs.Words.{wordsOf, floatsOf, withWords}
-use Rattle.rules.specs.Refusals.{noRoom, unless, lower}
-use Rattle.scene.specs.Model.{countMaterials, countLights}
-use Rattle.sound.specs.Sound.{solidsOf}
+use Rattle.refusals.specs.Refusals.{noRoom, unless, lower}
+use Rattle.plan.specs.Model.{countMaterials, countLights}
+use Rattle.plan_test.specs.Sound.{solidsOf}
 use Rattle.args.specs.Records.{materialOf, materialNumber, lightOf, lightNumber}
-use Rattle.entry.specs.declared.Added.{Added}
-use Rattle.entry.specs.declared.Added.the-variants.{Refused, Done}
-use Rattle.entry.specs.Entry.{addedOf, countOf, pieceNumber, newPlace, withPiece, recordNumber, withMaterial, withLight}
+use Rattle.plan_entry.specs.declared.Added.{Added}
+use Rattle.plan_entry.specs.declared.Added.the-variants.{Refused, Done}
+use Rattle.plan_entry.specs.Entry.{addedOf, countOf, pieceNumber, newPlace, withPiece, recordNumber, withMaterial, withLight}
 use Rattle.reply.specs.declared.Reply.{Reply}
 use Rattle.reply.specs.Replies.{refusedReply, settled, Sent}
 use Rattle.lent.specs.Tables.{wholePlan, planWords, planFloats}

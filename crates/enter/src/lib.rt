@@ -2,16 +2,16 @@
 ghost use mathlib.Core.Path.{_≡_};
 ghost use lib.ListN.{length};
 ghost use Rattle.enter.specs.Enter.{shortNumber, materialGiven, lightGiven, accepted, EntersMaterial, EntersLight, EntersPiece, clearedFront, cleared, addedReply, objectBefore};
-use entry::Added;
+use plan_entry::Added;
 use reply::Reply;
 
 // The plan and `out` are of full size.
 pub fn short_number(plan: &[u8], out: usize) -> u32
     ensures { λ r. ⌜ r ≡ shortNumber (now (plan .entry)) out ⌝ }
 {
-    rules::lower(
-        rules::unless(2, 89152 <= plan.len()),
-        rules::unless(2, 64 <= out),
+    refusals::lower(
+        refusals::unless(2, 89152 <= plan.len()),
+        refusals::unless(2, 64 <= out),
     )
 }
 
@@ -49,10 +49,10 @@ pub fn add_material(plan: &mut [u8], args: &[u8], out: usize) -> Added
     words::load(args, &mut aw);
     let mut af = [0.0f32; 16];
     words::floats(&aw, &mut af);
-    let no = rules::lower(short_number(plan, out), material_given(args, &af));
+    let no = refusals::lower(short_number(plan, out), material_given(args, &af));
     let mut ws = [0u32; 22288];
     lent::load_plan(plan, &mut ws);
-    let a = entry::add_material(no, &mut ws, &aw);
+    let a = plan_entry::add_material(no, &mut ws, &aw);
     if accepted(a) {
         lent::store_plan(&ws, plan);
     }
@@ -66,10 +66,10 @@ pub fn add_light(plan: &mut [u8], args: &[u8], out: usize) -> Added
     words::load(args, &mut aw);
     let mut af = [0.0f32; 16];
     words::floats(&aw, &mut af);
-    let no = rules::lower(short_number(plan, out), light_given(args, &af));
+    let no = refusals::lower(short_number(plan, out), light_given(args, &af));
     let mut ws = [0u32; 22288];
     lent::load_plan(plan, &mut ws);
-    let a = entry::add_light(no, &mut ws, &aw);
+    let a = plan_entry::add_light(no, &mut ws, &aw);
     if accepted(a) {
         lent::store_plan(&ws, plan);
     }
@@ -88,7 +88,7 @@ pub fn add_piece(before: u32, planes: bool, plan: &mut [u8], args: &[u8]) -> Add
     lent::load_plan(plan, &mut ws);
     let mut fs = [0.0f32; 22288];
     words::floats(&ws, &mut fs);
-    let a = entry::add_piece(before, planes, &mut ws, &fs, &aw, &af, args.len());
+    let a = plan_entry::add_piece(before, planes, &mut ws, &fs, &aw, &af, args.len());
     if accepted(a) {
         lent::store_plan(&ws, plan);
     }
@@ -132,8 +132,8 @@ pub fn added_reply(a: Added) -> Reply
 pub fn object_before(plan: &[u8], nodes: usize, order: usize, out: usize) -> u32
     ensures { λ r. ⌜ r ≡ objectBefore (now (plan .entry)) nodes order out ⌝ }
 {
-    rules::lower(
+    refusals::lower(
         short_number(plan, out),
-        rules::unless(2, rules::both(18396 <= nodes, 1024 <= order)),
+        refusals::unless(2, refusals::both(18396 <= nodes, 1024 <= order)),
     )
 }

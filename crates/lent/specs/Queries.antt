@@ -6,8 +6,8 @@ use lib.ListN.{length}
 use lib.Dec.{leb, eqb}
 use lib.Ieee.{Float}
 use Rattle.words.specs.Words.{wordAt}
-use Rattle.rules.specs.Refusals.{noRoom, lower}
-use Rattle.sound.specs.Sound.{objectsNumber, solidsOf}
+use Rattle.refusals.specs.Refusals.{noRoom, lower}
+use Rattle.plan_test.specs.Sound.{objectsNumber, solidsOf}
 use Rattle.bemitondry.specs.Calls.{queryAnswer, distMatAnswer, queryTreeAnswer, distMatTreeAnswer}
 use Rattle.reply.specs.declared.Reply.{Reply}
 use Rattle.reply.specs.Replies.{refusedReply, foundReply}

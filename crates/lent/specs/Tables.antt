@@ -6,7 +6,7 @@ use lib.ListN.{length}
 use lib.Dec.{leb, eqb}
 use lib.Ieee.{Float}
 use Rattle.words.specs.Words.{wordsOf, floatsOf}
-use Rattle.rules.specs.Refusals.{badNumber, noRoom, unless, lower}
+use Rattle.refusals.specs.Refusals.{badNumber, noRoom, unless, lower}
 
 -- the first n words of a table that has all of its bytes, else zeros
 abbrev pub tableWords : List ℕ → ℕ → ℕ → List ℕ

@@ -57,18 +57,18 @@ pub fn store_order(ws: &[u32; 256], order: &mut [u8])
 fn list_before(plan: &[u8], tree: u32) -> u32
     ensures { λ r. ⌜ r ≡ listBefore (now (plan .entry)) tree ⌝ }
 {
-    rules::lower(
-        rules::unless(2, 89152 <= plan.len()),
-        rules::unless(1, tree == 0),
+    refusals::lower(
+        refusals::unless(2, 89152 <= plan.len()),
+        refusals::unless(1, tree == 0),
     )
 }
 
 fn tree_before(plan: &[u8], nodes: usize, order: usize) -> u32
     ensures { λ r. ⌜ r ≡ treeBefore (now (plan .entry)) nodes order ⌝ }
 {
-    rules::lower(
-        rules::unless(2, 89152 <= plan.len()),
-        rules::unless(2, rules::both(18396 <= nodes, 1024 <= order)),
+    refusals::lower(
+        refusals::unless(2, 89152 <= plan.len()),
+        refusals::unless(2, refusals::both(18396 <= nodes, 1024 <= order)),
     )
 }
 
@@ -76,7 +76,10 @@ fn query_loaded(n: u32, ws: &[u32; 22288], fs: &[f32; 22288], args: &[u8]) -> Re
     ensures { λ r. ⌜ r ≡ queryLoaded n (now (ws .entry)) (now (fs .entry)) (now (args .entry)) ⌝ }
 {
     if args.len() < 20 {
-        return reply::refused(rules::lower(2, rules::lower(n, sound::objects_number(ws, fs))));
+        return reply::refused(refusals::lower(
+            2,
+            refusals::lower(n, plan_test::objects_number(ws, fs)),
+        ));
     }
     reply::found_reply(bemitondry::query_list(
         n,
@@ -92,8 +95,8 @@ fn dist_mat_loaded(n: u32, ws: &[u32; 22288], fs: &[f32; 22288], args: &[u8]) ->
     ensures { λ r. ⌜ r ≡ distMatLoaded n (now (ws .entry)) (now (fs .entry)) (now (args .entry)) ⌝ }
 {
     if args.len() < 12 {
-        let s = sound::judge_solids(ws, fs);
-        return reply::refused(rules::lower(2, rules::lower(n, s.number)));
+        let s = plan_test::judge_solids(ws, fs);
+        return reply::refused(refusals::lower(2, refusals::lower(n, s.number)));
     }
     reply::found_reply(bemitondry::dist_mat_list(n, ws, fs, reply::vec_at(args, 0)))
 }
@@ -110,7 +113,10 @@ fn query_tree_loaded(
     ensures { λ r. ⌜ r ≡ queryTreeLoaded n (now (nw .entry)) (now (nf .entry)) (now (ow .entry)) (now (ws .entry)) (now (fs .entry)) (now (args .entry)) ⌝ }
 {
     if args.len() < 20 {
-        return reply::refused(rules::lower(2, rules::lower(n, sound::objects_number(ws, fs))));
+        return reply::refused(refusals::lower(
+            2,
+            refusals::lower(n, plan_test::objects_number(ws, fs)),
+        ));
     }
     reply::found_reply(bemitondry::query_tree(
         n,
@@ -137,8 +143,8 @@ fn dist_mat_tree_loaded(
     ensures { λ r. ⌜ r ≡ distMatTreeLoaded n (now (nw .entry)) (now (nf .entry)) (now (ow .entry)) (now (ws .entry)) (now (fs .entry)) (now (args .entry)) ⌝ }
 {
     if args.len() < 12 {
-        let s = sound::judge_solids(ws, fs);
-        return reply::refused(rules::lower(2, rules::lower(n, s.number)));
+        let s = plan_test::judge_solids(ws, fs);
+        return reply::refused(refusals::lower(2, refusals::lower(n, s.number)));
     }
     reply::found_reply(bemitondry::dist_mat_tree(n, nw, nf, ow, ws, fs, reply::vec_at(args, 0)))
 }

@@ -11,12 +11,12 @@ use lib.Ieee.{Float}
 use borrow.Author.Tests.{not-true}
 use Rattle.vec.specs.declared.Vec3.{Vec3}
 use Rattle.vec.specs.Vec.{vsub}
-use Rattle.rules.specs.Refusals.{unless, lower}
-use Rattle.rules.specs.Ranges.{far, coordinates, withinUpTo}
-use Rattle.scene.specs.Model.{countLights}
-use Rattle.sound.specs.Sound.{countsOk, solidsOf}
-use Rattle.sound.proofs.Numbers.{told, cond-zero, unless-zero, lower-zero, Each, lowest-exact}
-use Rattle.sound.proofs.Exact.{counts-from, solids-exact}
+use Rattle.refusals.specs.Refusals.{unless, lower}
+use Rattle.refusals.specs.Ranges.{far, coordinates, withinUpTo}
+use Rattle.plan.specs.Model.{countLights}
+use Rattle.plan_test.specs.Sound.{countsOk, solidsOf}
+use Rattle.plan_test.proofs.Numbers.{told, cond-zero, unless-zero, lower-zero, Each, lowest-exact}
+use Rattle.plan_test.proofs.Exact.{counts-from, solids-exact}
 use Rattle.args.specs.declared.QuadLight.{QuadLight}
 use Rattle.args.specs.Records.{dark, lightNumber}
 use Rattle.lights.specs.Lights.{planLight, lightsAt, lightsNumber, litNumber, LightOk, SoundLit}

@@ -11,16 +11,16 @@ use lib.Ieee.{Float}
 use Rattle.words.specs.Lists.{listFrom}
 use Rattle.words.specs.Words.{floatsOf}
 use Rattle.words.proofs.Runs.{from-same, getD-from, length-from}
-use Rattle.scene.specs.Model.{countLights, floatOf}
-use Rattle.sound.specs.Sound.{solidsOf}
-use Rattle.sound.proofs.Exact.{solids-exact}
+use Rattle.plan.specs.Model.{countLights, floatOf}
+use Rattle.plan_test.specs.Sound.{solidsOf}
+use Rattle.plan_test.proofs.Exact.{solids-exact}
 use Rattle.args.specs.declared.QuadLight.{QuadLight}
 use Rattle.args.specs.Records.{lightOf, lightNumber}
-use Rattle.entry.specs.After.{seen, lightAt, lightsOf, Entered, Made, empty, piece, material, light}
-use Rattle.entry.specs.Entry.{newPlace, withPiece}
-use Rattle.entry.proofs.Records.{same-float, light-same, material-entered, light-entered}
-use Rattle.entry.proofs.After.{piece-entered}
-use Rattle.entry.proofs.Made.{made-sound}
+use Rattle.plan_entry.specs.After.{seen, lightAt, lightsOf, Entered, Made, empty, piece, material, light}
+use Rattle.plan_entry.specs.Entry.{newPlace, withPiece}
+use Rattle.plan_entry.proofs.Records.{same-float, light-same, material-entered, light-entered}
+use Rattle.plan_entry.proofs.After.{piece-entered}
+use Rattle.plan_entry.proofs.Made.{made-sound}
 use Rattle.lights.specs.Lights.{planLight, LightOk, litNumber}
 use Rattle.lights.proofs.Exact.{light-exact, lit-exact}
 

@@ -7,11 +7,11 @@ use lib.Dec.{T}
 use lib.Ieee.{Float}
 use Rattle.vec.specs.Vec.{vsub}
 use Rattle.words.specs.Lists.{listFrom}
-use Rattle.rules.specs.Refusals.{noRoom, lower}
-use Rattle.rules.specs.Ranges.{far, coordinates, withinUpTo}
-use Rattle.scene.specs.Model.{countLights}
-use Rattle.sound.specs.Sound.{countsOk, lowest, solidsOf}
-use Rattle.sound.specs.Exact.{SoundSolids}
+use Rattle.refusals.specs.Refusals.{noRoom, lower}
+use Rattle.refusals.specs.Ranges.{far, coordinates, withinUpTo}
+use Rattle.plan.specs.Model.{countLights}
+use Rattle.plan_test.specs.Sound.{countsOk, lowest, solidsOf}
+use Rattle.plan_test.specs.Exact.{SoundSolids}
 use Rattle.args.specs.declared.QuadLight.{QuadLight}
 use Rattle.args.specs.Records.{lightOf, dark, lightNumber}
 

@@ -1,7 +1,7 @@
 // The lights of a plan, tested as on entry.
 ghost use mathlib.Core.Path.{_≡_};
 ghost use Prim.Native.Nat.{_+_, _*_};
-ghost use Rattle.scene.specs.Model.{vecOf};
+ghost use Rattle.plan.specs.Model.{vecOf};
 ghost use Rattle.lights.specs.Lights.{planLight, lightsAt, lightsNumber, litNumber};
 use args::QuadLight;
 use vec::Vec3;
@@ -43,7 +43,7 @@ fn lights_number(fs: &[f32], n: u32) -> u32
     let mut no: u32 = 0;
     let mut l: u32 = 0;
     while l < n {
-        no = rules::lower(no, light_at(fs, l));
+        no = refusals::lower(no, light_at(fs, l));
         l += 1;
     }
     no
@@ -53,9 +53,9 @@ fn lights_number(fs: &[f32], n: u32) -> u32
 pub fn lit_number(ws: &[u32; 22288], fs: &[f32; 22288]) -> u32
     ensures { λ r. ⌜ r ≡ litNumber (now (ws .entry)) (now (fs .entry)) ⌝ }
 {
-    if sound::counts_ok(ws) {
-        let s = sound::judge_solids(ws, fs);
-        return rules::lower(s.number, lights_number(fs, ws[2]));
+    if plan_test::counts_ok(ws) {
+        let s = plan_test::judge_solids(ws, fs);
+        return refusals::lower(s.number, lights_number(fs, ws[2]));
     }
     2
 }

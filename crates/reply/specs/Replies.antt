@@ -9,12 +9,12 @@ use lib.Ieee.{Float, binary32, toBits}
 use Rattle.vec.specs.declared.Vec3.{Vec3}
 use Rattle.sdf.specs.declared.Aabb.{Aabb}
 use Rattle.words.specs.Words.{sentWords}
-use Rattle.rules.specs.Refusals.{noRoom, lower}
+use Rattle.refusals.specs.Refusals.{noRoom, lower}
 use Rattle.bemitondry.specs.declared.Scalar.{Scalar}
 use Rattle.bemitondry.specs.declared.Scalar.the-variants as scalar
 use Rattle.bemitondry.specs.declared.Boxed.{Boxed}
 use Rattle.bemitondry.specs.declared.Boxed.the-variants as boxed
-use Rattle.scene.specs.declared.DistHit.{DistHit}
+use Rattle.plan.specs.declared.DistHit.{DistHit}
 use Rattle.bemitondry.specs.declared.Found.{Found}
 use Rattle.bemitondry.specs.declared.Found.the-variants as found
 use Rattle.reply.specs.declared.Reply.{Reply}

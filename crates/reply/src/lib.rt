@@ -32,7 +32,7 @@ pub fn scalar_reply(a: Scalar) -> Reply
         Scalar::Refused(n) => refused(n),
         Scalar::Is(x) => Reply {
             number: 0,
-            words: [num::bits(x), 0, 0, 0, 0, 0, 0, 0, 0, 0, 0, 0, 0, 0, 0, 0],
+            words: [scalar::bits(x), 0, 0, 0, 0, 0, 0, 0, 0, 0, 0, 0, 0, 0, 0, 0],
         },
     }
 }
@@ -45,12 +45,12 @@ pub fn boxed_reply(a: Boxed) -> Reply
         Boxed::Is(b) => Reply {
             number: 0,
             words: [
-                num::bits(b.lo.x),
-                num::bits(b.lo.y),
-                num::bits(b.lo.z),
-                num::bits(b.hi.x),
-                num::bits(b.hi.y),
-                num::bits(b.hi.z),
+                scalar::bits(b.lo.x),
+                scalar::bits(b.lo.y),
+                scalar::bits(b.lo.z),
+                scalar::bits(b.hi.x),
+                scalar::bits(b.hi.y),
+                scalar::bits(b.hi.z),
                 0,
                 0,
                 0,
@@ -74,7 +74,7 @@ pub fn found_reply(a: Found) -> Reply
         Found::Is(h, popped, evaluated) => Reply {
             number: 0,
             words: [
-                num::bits(h.d),
+                scalar::bits(h.d),
                 h.mat,
                 popped,
                 evaluated,
@@ -102,7 +102,7 @@ fn settled(whole: bool, r: Reply) -> Reply
     if whole {
         return r;
     }
-    refused(rules::lower(2, r.number))
+    refused(refusals::lower(2, r.number))
 }
 
 pub fn answer(r: Reply, out: &mut [u8]) -> u32
@@ -117,7 +117,7 @@ pub fn answer(r: Reply, out: &mut [u8]) -> u32
 pub fn float_at(args: &[u8], i: usize) -> f32
     ensures { λ r. ⌜ r ≡ floatAt (now (args .entry)) i ⌝ }
 {
-    num::float(words::word(args, i))
+    scalar::float(words::word(args, i))
 }
 
 // Three words from i on.

@@ -1,7 +1,7 @@
 -- "An object's box is `bounds()` widened by blend, its centre half the sum of the corners. Box distance is `aabb_dist`." Definitions only.
 use lib.Ieee.{Float}
-use Rattle.num.specs.F32.{_⊕_, f0, fhalf}
-use Rattle.num.specs.Extremes.{fmax}
+use Rattle.scalar.specs.F32.{_⊕_, f0, fhalf}
+use Rattle.scalar.specs.Extremes.{fmax}
 use Rattle.vec.specs.declared.Vec3.{Vec3}
 use Rattle.vec.specs.Vec.{vsplat, vadd, vsub, vscale, vlength, vmin, vmax}
 use Rattle.sdf.specs.declared.Shape.{Shape}

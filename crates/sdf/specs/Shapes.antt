@@ -2,9 +2,9 @@
 use mathlib.Core.Bool.{cond, _&&_}
 use lib.Ieee.{Float, binary32, ofBits, neg, lt}
 use Rattle.root.specs.Root.{rootOf}
-use Rattle.num.specs.F32.{_⊕_, _⊖_, _⊗_, _⊘_, f0, fhalf, f1}
-use Rattle.num.specs.Extremes.{fmin, fmax, clampOf}
-use Rattle.num.specs.Signs.{absOf, signumOf}
+use Rattle.scalar.specs.F32.{_⊕_, _⊖_, _⊗_, _⊘_, f0, fhalf, f1}
+use Rattle.scalar.specs.Extremes.{fmin, fmax, clampOf}
+use Rattle.scalar.specs.Signs.{absOf, signumOf}
 use Rattle.vec.specs.declared.Vec3.{Vec3}
 use Rattle.vec.specs.Vec.{vsplat, vsub, vscale, vdot, vlength, vmax, vabs}
 use Rattle.sdf.specs.declared.Shape.{Shape}

@@ -38,7 +38,7 @@ fn round_box(c: Vec3, b: Vec3, r: f32, p: Vec3) -> f32
 {
     let q = p.sub(c).abs().sub(b.sub(Vec3::splat(r)));
     let outside = q.max(Vec3::splat(0.0)).length();
-    outside + num::min(num::max(q.x, num::max(q.y, q.z)), 0.0) - r
+    outside + scalar::min(scalar::max(q.x, scalar::max(q.y, q.z)), 0.0) - r
 }
 
 fn plane(n: Vec3, h: f32, p: Vec3) -> f32
@@ -52,7 +52,7 @@ fn capsule(a: Vec3, b: Vec3, r: f32, p: Vec3) -> f32
 {
     let pa = p.sub(a);
     let ba = b.sub(a);
-    let h = num::clamp(pa.dot(ba) / ba.dot(ba), 0.0, 1.0);
+    let h = scalar::clamp(pa.dot(ba) / ba.dot(ba), 0.0, 1.0);
     pa.sub(ba.scale(h)).length() - r
 }
 
@@ -77,8 +77,8 @@ fn cylinder_square(x: f32, y: f32, baba: f32) -> f32
 {
     let x2 = x * x;
     let y2 = y * y * baba;
-    if num::max(x, y) < 0.0 {
-        return -num::min(x2, y2);
+    if scalar::max(x, y) < 0.0 {
+        return -scalar::min(x2, y2);
     }
     beyond(x, x2) + beyond(y, y2)
 }
@@ -88,9 +88,9 @@ fn cylinder_body(pa: Vec3, ba: Vec3, baba: f32, r: f32) -> f32
 {
     let paba = pa.dot(ba);
     let x = pa.scale(baba).sub(ba.scale(paba)).length() - r * baba;
-    let y = num::abs(paba - baba * 0.5) - baba * 0.5;
+    let y = scalar::abs(paba - baba * 0.5) - baba * 0.5;
     let d = cylinder_square(x, y, baba);
-    num::signum(d) * root::root(num::abs(d)) / baba
+    scalar::signum(d) * root::root(scalar::abs(d)) / baba
 }
 
 // Ends that all but coincide make a cylinder or a cone a sphere.
@@ -116,7 +116,7 @@ fn cone_foot(x: f32, paba: f32, baba: f32, ra: f32, rba: f32) -> f32
     ensures { λ f. ⌜ f ≡ coneFoot x paba baba ra rba ⌝ }
 {
     let k = rba * rba + baba;
-    num::clamp((rba * (x - ra) + paba * baba) / k, 0.0, 1.0)
+    scalar::clamp((rba * (x - ra) + paba * baba) / k, 0.0, 1.0)
 }
 
 fn cone_sign(cbx: f32, cay: f32) -> f32
@@ -135,21 +135,21 @@ fn cone_at(x: f32, paba: f32, baba: f32, ra: f32, rb: f32) -> f32
     ensures { λ d. ⌜ d ≡ coneAt x paba baba ra rb ⌝ }
 {
     let rba = rb - ra;
-    let cax = num::max(0.0, x - cone_end(paba, ra, rb));
-    let cay = num::abs(paba - 0.5) - 0.5;
+    let cax = scalar::max(0.0, x - cone_end(paba, ra, rb));
+    let cay = scalar::abs(paba - 0.5) - 0.5;
     let f = cone_foot(x, paba, baba, ra, rba);
     let cbx = x - ra - f * rba;
     let cby = paba - f;
     let cap = cax * cax + cay * cay * baba;
     let side = cbx * cbx + cby * cby * baba;
-    cone_sign(cbx, cay) * root::root(num::min(cap, side))
+    cone_sign(cbx, cay) * root::root(scalar::min(cap, side))
 }
 
 fn cone_body(pa: Vec3, ba: Vec3, baba: f32, ra: f32, rb: f32) -> f32
     ensures { λ d. ⌜ d ≡ coneBody pa ba baba ra rb ⌝ }
 {
     let paba = pa.dot(ba) / baba;
-    let x = root::root(num::max(pa.dot(pa) - paba * paba * baba, 0.0));
+    let x = root::root(scalar::max(pa.dot(pa) - paba * paba * baba, 0.0));
     cone_at(x, paba, baba, ra, rb)
 }
 
@@ -159,7 +159,7 @@ fn cone(a: Vec3, b: Vec3, ra: f32, rb: f32, p: Vec3) -> f32
     let ba = b.sub(a);
     let baba = ba.dot(ba);
     if baba < 1e-12 {
-        return sphere(a, num::max(ra, rb), p);
+        return sphere(a, scalar::max(ra, rb), p);
     }
     cone_body(p.sub(a), ba, baba, ra, rb)
 }
@@ -197,7 +197,7 @@ impl Shape {
                 },
             )),
             Shape::Cylinder { a, b, r } => Bounds::Within(around(a, b, r)),
-            Shape::Cone { a, b, ra, rb } => Bounds::Within(around(a, b, num::max(ra, rb))),
+            Shape::Cone { a, b, ra, rb } => Bounds::Within(around(a, b, scalar::max(ra, rb))),
         }
     }
 

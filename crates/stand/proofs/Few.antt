@@ -9,17 +9,17 @@ use lib.Dec.{eqb, ltb}
 use lib.Ieee.{Float}
 use borrow.Author.Tests.{eqb-false, lt-ltb}
 use Rattle.sdf.specs.declared.Aabb.{Aabb}
-use Rattle.scene.specs.Model.{countObjects}
-use Rattle.sound.specs.Sound.{objectsNumber}
-use Rattle.sound.proofs.Exact.{objects-exact}
-use Rattle.boxes.specs.Boxes.{boxesOf}
-use Rattle.boxes.proofs.Lists.{box-count}
-use Rattle.tree.specs.Check.{judgeOf}
-use Rattle.tree.specs.declared.Sub.{Sub}
-use Rattle.tree.specs.declared.Sub.the-variants.{Bad, Good}
-use Rattle.tree.proofs.Trees.{stands-fit}
-use Rattle.tree.proofs.Exact.{tree-told}
-use Rattle.build.specs.Encode.{low32}
+use Rattle.plan.specs.Model.{countObjects}
+use Rattle.plan_test.specs.Sound.{objectsNumber}
+use Rattle.plan_test.proofs.Exact.{objects-exact}
+use Rattle.bvh_boxes.specs.Boxes.{boxesOf}
+use Rattle.bvh_boxes.proofs.Lists.{box-count}
+use Rattle.bvh_rules.specs.Check.{judgeOf}
+use Rattle.bvh_rules.specs.declared.Sub.{Sub}
+use Rattle.bvh_rules.specs.declared.Sub.the-variants.{Bad, Good}
+use Rattle.bvh_rules.proofs.Trees.{stands-fit}
+use Rattle.bvh_rules.proofs.Exact.{tree-told}
+use Rattle.bvh_build.specs.Encode.{low32}
 use Rattle.stand.specs.Stand.{sizeIn, offeredSize}
 
 pub few-objects : (w : List ℕ) (f : List Float) → objectsNumber w f ≡ 0 → countObjects w ≤ 256

@@ -6,7 +6,7 @@ use mathlib.Core.List.{List}
 use lib.ListN.{length, replicate}
 use lib.Ieee.{Float}
 use Rattle.words.specs.Words.{floatsOf, withWords}
-use Rattle.scene.specs.Model.{countObjects}
+use Rattle.plan.specs.Model.{countObjects}
 use Rattle.lent.specs.Tables.{tableWords, planWords, planFloats, nodesIn, nodesFloats, orderIn}
 use Rattle.lent.proofs.Loads.{words-loaded, floats-loaded, nodes-loaded, nodes-floats, order-loaded}
 use Rattle.stand.specs.declared.Raised.{Raised}

@@ -9,17 +9,17 @@ use lib.ListN.{length, take, replicate, length-replicate}
 use lib.Dec.{eqb}
 use lib.Ieee.{Float}
 use borrow.Author.Tests.{eq-eqb, ne-eqb}
-use Rattle.rules.specs.Refusals.{lower, tooDeep}
-use Rattle.scene.specs.Model.{countObjects}
-use Rattle.sound.specs.Sound.{objectsNumber}
-use Rattle.sound.proofs.Numbers.{lower-zero}
-use Rattle.boxes.specs.Boxes.{boxesOf}
-use Rattle.tree.specs.declared.Sub.{Sub}
-use Rattle.tree.specs.Check.{judgeOf, isGood, refusedNumber, offeredNumber}
-use Rattle.build.specs.declared.Built.{Built}
-use Rattle.build.specs.Encode.{low32}
-use Rattle.build.specs.Tables.{builtOf, sizeOf, lowEnough, nodesWith, orderWith, Builds}
-use Rattle.build.proofs.Meets.{built-size}
+use Rattle.refusals.specs.Refusals.{lower, tooDeep}
+use Rattle.plan.specs.Model.{countObjects}
+use Rattle.plan_test.specs.Sound.{objectsNumber}
+use Rattle.plan_test.proofs.Numbers.{lower-zero}
+use Rattle.bvh_boxes.specs.Boxes.{boxesOf}
+use Rattle.bvh_rules.specs.declared.Sub.{Sub}
+use Rattle.bvh_rules.specs.Check.{judgeOf, isGood, refusedNumber, offeredNumber}
+use Rattle.bvh_build.specs.declared.Built.{Built}
+use Rattle.bvh_build.specs.Encode.{low32}
+use Rattle.bvh_build.specs.Tables.{builtOf, sizeOf, lowEnough, nodesWith, orderWith, Builds}
+use Rattle.bvh_build.proofs.Meets.{built-size}
 use Rattle.stand.specs.declared.Raised.{Raised}
 use Rattle.stand.specs.Stand.{noNodes, noOrder, buildNumber, builtAnswer, builtNodes, builtOrder, offerNumber, sizeIn, offeredSize, offeredAnswer, kept}
 use Rattle.stand.proofs.Few.{few-objects, fits-word, offered-few}

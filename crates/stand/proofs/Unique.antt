@@ -6,7 +6,7 @@ use mathlib.Core.List.{List}
 use lib.ListN.{length}
 use lib.Dec.{leb}
 use Rattle.words.specs.Words.{withWords}
-use Rattle.scene.specs.Model.{countObjects}
+use Rattle.plan.specs.Model.{countObjects}
 use Rattle.reply.specs.Replies.{settled, Sent}
 use Rattle.reply.proofs.Unique.{sent-only}
 use Rattle.lent.specs.Tables.{planWords, planFloats, nodesIn, orderIn}

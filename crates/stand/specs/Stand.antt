@@ -8,14 +8,14 @@ use lib.ListN.{length, take, replicate}
 use lib.Dec.{leb, eqb}
 use lib.Ieee.{Float}
 use Rattle.words.specs.Words.{withWords}
-use Rattle.rules.specs.Refusals.{noRoom, tooDeep, unless, lower}
-use Rattle.scene.specs.Model.{countObjects}
-use Rattle.sound.specs.Sound.{objectsNumber}
-use Rattle.boxes.specs.Boxes.{boxesOf}
-use Rattle.tree.specs.declared.Sub.{Sub}
-use Rattle.tree.specs.declared.Sub.the-variants.{Bad, Good}
-use Rattle.tree.specs.Check.{judgeOf, offeredNumber}
-use Rattle.build.specs.Tables.{builtOf, sizeOf, lowEnough, nodesWith, orderWith}
+use Rattle.refusals.specs.Refusals.{noRoom, tooDeep, unless, lower}
+use Rattle.plan.specs.Model.{countObjects}
+use Rattle.plan_test.specs.Sound.{objectsNumber}
+use Rattle.bvh_boxes.specs.Boxes.{boxesOf}
+use Rattle.bvh_rules.specs.declared.Sub.{Sub}
+use Rattle.bvh_rules.specs.declared.Sub.the-variants.{Bad, Good}
+use Rattle.bvh_rules.specs.Check.{judgeOf, offeredNumber}
+use Rattle.bvh_build.specs.Tables.{builtOf, sizeOf, lowEnough, nodesWith, orderWith}
 use Rattle.reply.specs.declared.Reply.{Reply}
 use Rattle.reply.specs.Replies.{refusedReply, settled, Sent}
 use Rattle.lent.specs.Tables.{wholePlan, wholeTree, planWords, planFloats, nodesIn, nodesFloats, orderIn}

@@ -4,10 +4,10 @@ ghost use mathlib.Core.Bool.{cond};
 ghost use Prim.Native.Nat.{_*_};
 ghost use lib.ListN.{length};
 ghost use lib.Dec.{eqb};
-ghost use Rattle.scene.specs.Model.{countObjects};
+ghost use Rattle.plan.specs.Model.{countObjects};
 ghost use Rattle.stand.specs.Stand.{noNodes, noOrder, buildNumber, builtAnswer, builtNodes, builtOrder, offerNumber, sizeIn, offeredAnswer, kept, standBefore, BuildLeaves, offerBefore, OfferLeaves, raisedReply};
+use bvh_rules::Sub;
 use reply::Reply;
-use tree::Sub;
 
 // A number, how many nodes stand, and whether the tables are to be stored.
 pub struct Raised {
@@ -37,13 +37,13 @@ fn raise_built(
 ) -> Raised
     ensures { λ r. ⌜ (now (nw .entry) ≡ noNodes → now (ow .entry) ≡ noOrder → (r ≡ builtAnswer (buildNumber before (now (ws .entry)) (now (fs .entry))) (now (ws .entry)) (now (fs .entry))) × (now (nw .exit) ≡ builtNodes (buildNumber before (now (ws .entry)) (now (fs .entry))) (now (ws .entry)) (now (fs .entry))) × (now (ow .exit) ≡ builtOrder (buildNumber before (now (ws .entry)) (now (fs .entry))) (now (ws .entry)) (now (fs .entry)))) ⌝ }
 {
-    let n = rules::lower(before, sound::objects_number(ws, fs));
+    let n = refusals::lower(before, plan_test::objects_number(ws, fs));
     if n == 0 {
-        let b = build::build(ws, fs, nw, ow);
+        let b = bvh_build::build(ws, fs, nw, ow);
         if b.low {
             return Raised {
                 number: 0,
-                nodes: build::narrow(b.next),
+                nodes: bvh_build::narrow(b.next),
                 stores: true,
             };
         }
@@ -83,17 +83,17 @@ fn raise_offered(
     ensures { λ r. ⌜ r ≡ offeredAnswer (offerNumber before (now (nw .entry)) (now (nf .entry)) (now (ow .entry)) (now (ws .entry)) (now (fs .entry))) (now (nw .entry)) (now (nf .entry)) (now (ow .entry)) (now (ws .entry)) (now (fs .entry)) ⌝ }
 {
     let _words: &[u32] = nw;
-    let n = rules::lower(before, sound::objects_number(ws, fs));
+    let n = refusals::lower(before, plan_test::objects_number(ws, fs));
     if n == 0 {
-        let s = tree::judge(nw, nf, ow, ws, fs, 64);
-        if tree::is_good(s) {
+        let s = bvh_rules::judge(nw, nf, ow, ws, fs, 64);
+        if bvh_rules::is_good(s) {
             return Raised {
                 number: 0,
-                nodes: build::narrow(size_in(s)),
+                nodes: bvh_build::narrow(size_in(s)),
                 stores: true,
             };
         }
-        let k = tree::refused_number(nw, nf, ow, ws, fs);
+        let k = bvh_rules::refused_number(nw, nf, ow, ws, fs);
         return Raised {
             number: k,
             nodes: 0,
@@ -111,12 +111,12 @@ fn raise_offered(
 fn stand_before(plan: &[u8], nodes: usize, order: usize, out: usize) -> u32
     ensures { λ r. ⌜ r ≡ standBefore (now (plan .entry)) nodes order out ⌝ }
 {
-    rules::lower(
-        rules::lower(
-            rules::unless(2, 89152 <= plan.len()),
-            rules::unless(2, 64 <= out),
+    refusals::lower(
+        refusals::lower(
+            refusals::unless(2, 89152 <= plan.len()),
+            refusals::unless(2, 64 <= out),
         ),
-        rules::unless(2, rules::both(18396 <= nodes, 1024 <= order)),
+        refusals::unless(2, refusals::both(18396 <= nodes, 1024 <= order)),
     )
 }
 
@@ -130,9 +130,9 @@ fn offer_before(
 ) -> u32
     ensures { λ r. ⌜ r ≡ offerBefore (now (plan .entry)) nodes order given ranks out ⌝ }
 {
-    rules::lower(
+    refusals::lower(
         stand_before(plan, nodes, order, out),
-        rules::unless(2, rules::both(18396 <= given, 1024 <= ranks)),
+        refusals::unless(2, refusals::both(18396 <= given, 1024 <= ranks)),
     )
 }
 
@@ -186,7 +186,7 @@ pub fn offer(
     let r = raise_offered(before, &ws, &fs, &nw, &nf, &ow);
     if r.stores {
         keep(&mut nw, 9 * (r.nodes as usize));
-        keep(&mut ow, tree::object_count(&ws) as usize);
+        keep(&mut ow, bvh_rules::object_count(&ws) as usize);
         lent::store_nodes(&nw, nodes);
         lent::store_order(&ow, order);
     }

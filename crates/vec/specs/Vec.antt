@@ -4,9 +4,9 @@ use mathlib.Core.Bool.{cond}
 use lib.Dec.{eqb}
 use lib.Ieee.{Float, neg}
 use Rattle.root.specs.Root.{rootOf}
-use Rattle.num.specs.F32.{_⊕_, _⊖_, _⊗_, _⊘_, f1}
-use Rattle.num.specs.Extremes.{fmin, fmax}
-use Rattle.num.specs.Signs.{absOf}
+use Rattle.scalar.specs.F32.{_⊕_, _⊖_, _⊗_, _⊘_, f1}
+use Rattle.scalar.specs.Extremes.{fmin, fmax}
+use Rattle.scalar.specs.Signs.{absOf}
 use Rattle.vec.specs.declared.Vec3.{Vec3}
 
 -- a function of one, or of two, floats at each component

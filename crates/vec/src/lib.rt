@@ -116,9 +116,9 @@ impl Vec3 {
         ensures { λ r. ⌜ r ≡ vmin self b ⌝ }
     {
         Vec3 {
-            x: num::min(self.x, b.x),
-            y: num::min(self.y, b.y),
-            z: num::min(self.z, b.z),
+            x: scalar::min(self.x, b.x),
+            y: scalar::min(self.y, b.y),
+            z: scalar::min(self.z, b.z),
         }
     }
 
@@ -126,9 +126,9 @@ impl Vec3 {
         ensures { λ r. ⌜ r ≡ vmax self b ⌝ }
     {
         Vec3 {
-            x: num::max(self.x, b.x),
-            y: num::max(self.y, b.y),
-            z: num::max(self.z, b.z),
+            x: scalar::max(self.x, b.x),
+            y: scalar::max(self.y, b.y),
+            z: scalar::max(self.z, b.z),
         }
     }
 
@@ -136,9 +136,9 @@ impl Vec3 {
         ensures { λ r. ⌜ r ≡ vabs self ⌝ }
     {
         Vec3 {
-            x: num::abs(self.x),
-            y: num::abs(self.y),
-            z: num::abs(self.z),
+            x: scalar::abs(self.x),
+            y: scalar::abs(self.y),
+            z: scalar::abs(self.z),
         }
     }
 

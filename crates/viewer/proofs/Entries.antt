@@ -5,7 +5,7 @@ use mathlib.Core.Bool.{Bool, false}
 use mathlib.Core.List.{List}
 use lib.ListN.{length}
 use lib.Dec.{leb}
-use Rattle.entry.specs.declared.Added.{Added}
+use Rattle.plan_entry.specs.declared.Added.{Added}
 use Rattle.reply.specs.declared.Reply.{Reply}
 use Rattle.reply.specs.Replies.{settled, Sent}
 use Rattle.enter.specs.Enter.{accepted, Enters, EntersPiece, cleared, addedReply, EntrySent, PieceSent, objectBefore, objectAnswer, ObjectSent}

@@ -5,9 +5,9 @@ use mathlib.Core.List.{List}
 use lib.ListN.{length}
 use lib.Dec.{leb}
 use Rattle.words.specs.Words.{wordAt}
-use Rattle.rules.specs.Refusals.{noRoom}
+use Rattle.refusals.specs.Refusals.{noRoom}
 use Rattle.sdf.specs.declared.Shape.{Shape}
-use Rattle.rules.specs.Prims.{shapeOf}
+use Rattle.refusals.specs.Prims.{shapeOf}
 use Rattle.bemitondry.specs.Calls.{rootAnswer, acosAnswer, primDistAnswer, primBoundsAnswer}
 use Rattle.reply.specs.declared.Reply.{Reply}
 use Rattle.reply.specs.Replies.{refusedReply, scalarReply, boxedReply}

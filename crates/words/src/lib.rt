@@ -61,7 +61,7 @@ fn float_at(ws: &[u32], i: usize) -> f32
     ensures { λ r. ⌜ r ≡ floatAt (now (ws .entry)) i ⌝ }
 {
     if i < ws.len() {
-        return num::float(ws[i]);
+        return scalar::float(ws[i]);
     }
     0.0
 }

@@ -5,15 +5,6 @@ use borrow.Author.Needs.{needs}
 use Rattle.args.proofs.arg_cutters.Statement.{statement}
 use Rattle.args.proofs.arg_cutters.Tie as tie
 
-mul-if2 : tie.Need-mul-if2
-mul-if2 c = search needs
-
-add-if2 : tie.Need-add-if2
-add-if2 c = search needs
-
-lowest-cutter-requires : tie.Need-lowest-cutter-requires
-lowest-cutter-requires c κs = search needs
-
 returns : tie.Need-returns
 unfolding argCutters
 returns c = simp (le-leb _ _ (c .before .before .if1 .taken), le-leb _ _ (c .before .if2 .taken)) (c .lowest-cutter .ensures)
@@ -28,4 +19,5 @@ returns-3 c = simp (lt-leb _ _ (c .if1 .left))
 
 pub arg-cutters-spec : {M : Type 1} → statement M
 arg-cutters-spec =
-    tie.close (tie.spec mul-if2 add-if2 lowest-cutter-requires returns returns-2 returns-3)
+    tie.close (tie.spec
+    (λ c. search needs) (λ c. search needs) (λ c κs. search needs) returns returns-2 returns-3)

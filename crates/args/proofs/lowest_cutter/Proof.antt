@@ -4,9 +4,9 @@ use Prim.Native.Nat.{_≤_, _-_}
 use mathlib.Core.Path.{_≡_}
 use native.Mathlib.Omega.{arith}
 use Rattle.words.specs.Lists.{listFrom}
-use Rattle.sound.specs.Sound.{lowest}
+use Rattle.plan_test.specs.Sound.{lowest}
 use Rattle.args.specs.Args.{argCutter}
-use Rattle.sound.proofs.Lists.{lowest-none, lowest-more}
+use Rattle.plan_test.proofs.Lists.{lowest-none, lowest-more}
 use Rattle.args.proofs.lowest_cutter.Statement.{statement}
 use Rattle.args.proofs.lowest_cutter.Tie as tie
 
@@ -19,21 +19,6 @@ abbrev μ-loop : tie.MeasureT-loop
 loop-holds : tie.Need-loop-holds Inv-loop μ-loop
 loop-holds c = let a = c .before .before .args in (search needs, lowest-none (argCutter (a .aw .now) (a .af .now)) 0 1)
 
-add-arg-cutter : tie.Need-add-arg-cutter Inv-loop μ-loop
-add-arg-cutter c = search needs
-
-arg-cutter-requires : tie.Need-arg-cutter-requires Inv-loop μ-loop
-arg-cutter-requires c κs = search needs
-
-lower-requires : tie.Need-lower-requires Inv-loop μ-loop
-lower-requires c κs = search needs
-
-add-j : tie.Need-add-j Inv-loop μ-loop
-add-j c = search needs
-
-loop-less : tie.Need-loop-less Inv-loop μ-loop
-loop-less c = search needs
-
 loop-again : tie.Need-loop-again Inv-loop μ-loop
 loop-again c = (omega arith, rw lowest-more (cc))
 
@@ -44,13 +29,5 @@ pub lowest-cutter-spec : {M : Type 1} → statement M
 lowest-cutter-spec =
     tie.close
     (tie.spec
-    Inv-loop
-    μ-loop
-    loop-holds
-    add-arg-cutter
-    arg-cutter-requires
-    lower-requires
-    add-j
-    loop-less
-    loop-again
-    returns)
+    Inv-loop μ-loop loop-holds (λ c. search needs) (λ c κs. search needs) (λ c κs. search needs)
+    (λ c. search needs) (λ c. search needs) loop-again returns)

@@ -5,18 +5,9 @@ use borrow.Author.Needs.{needs}
 use Rattle.bemitondry.proofs.boxed_of.Statement.{statement}
 use Rattle.bemitondry.proofs.boxed_of.Tie as tie
 
-enum-known-b : tie.Need-enum-known-b
-enum-known-b c = search needs
-
 returns : tie.Need-returns
 unfolding boxedOf
 returns c = rw (c .before .before .b .given .1) (simp (eq-eqb _ 0 (c .if1 .taken)))
-
-enum-told : tie.Need-enum-told
-enum-told c = search needs
-
-lower-requires : tie.Need-lower-requires
-lower-requires c κs = search needs
 
 returns-2 : tie.Need-returns-2
 unfolding boxedOf
@@ -28,4 +19,5 @@ returns-3 c = rw (c .before .enum-told .given .1) (cc)
 
 pub boxed-of-spec : {M : Type 1} → statement M
 boxed-of-spec =
-    tie.close (tie.spec enum-known-b returns enum-told lower-requires returns-2 returns-3)
+    tie.close (tie.spec
+    (λ c. search needs) returns (λ c. search needs) (λ c κs. search needs) returns-2 returns-3)

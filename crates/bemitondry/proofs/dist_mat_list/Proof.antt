@@ -7,12 +7,6 @@ use borrow.Author.Needs.{needs}
 use Rattle.bemitondry.proofs.dist_mat_list.Statement.{statement}
 use Rattle.bemitondry.proofs.dist_mat_list.Tie as tie
 
-dist-mat-number-requires : tie.Need-dist-mat-number-requires
-dist-mat-number-requires c κs = search needs
-
-dist-mat-list-requires : tie.Need-dist-mat-list-requires
-dist-mat-list-requires c κs = search needs
-
 returns : tie.Need-returns
 unfolding distMatAnswer foundOf
 returns c = rw (sym (c .before .before .dist-mat-number .ensures), eq-eqb _ 0 (c .before .if1 .taken)) (cc)
@@ -23,4 +17,5 @@ returns-2 c = rw (sym (c .before .dist-mat-number .ensures), ne-eqb _ 0 (c .if1 
 
 pub dist-mat-list-spec : {M : Type 1} → statement M
 dist-mat-list-spec =
-    tie.close (tie.spec dist-mat-number-requires dist-mat-list-requires returns returns-2)
+    tie.close (tie.spec
+    (λ c κs. search needs) (λ c κs. search needs) returns returns-2)

@@ -7,15 +7,6 @@ use borrow.Author.Needs.{needs}
 use Rattle.bemitondry.proofs.dist_mat_tree.Statement.{statement}
 use Rattle.bemitondry.proofs.dist_mat_tree.Tie as tie
 
-dist-mat-number-requires : tie.Need-dist-mat-number-requires
-dist-mat-number-requires c κs = search needs
-
-with-tree-requires : tie.Need-with-tree-requires
-with-tree-requires c κs = search needs
-
-dist-mat-by-tree-requires : tie.Need-dist-mat-by-tree-requires
-dist-mat-by-tree-requires c κs = search needs
-
 returns : tie.Need-returns
 unfolding distMatTreeAnswer foundOf
 returns c = rw (c .dist-mat-by-tree .ensures, sym (c .before .before .before .dist-mat-number .ensures), sym (c .before .before .with-tree .ensures), eq-eqb _ 0 (c .before .if1 .taken))
@@ -28,8 +19,4 @@ pub dist-mat-tree-spec : {M : Type 1} → statement M
 dist-mat-tree-spec =
     tie.close
     (tie.spec
-    dist-mat-number-requires
-    with-tree-requires
-    dist-mat-by-tree-requires
-    returns
-    returns-2)
+    (λ c κs. search needs) (λ c κs. search needs) (λ c κs. search needs) returns returns-2)

@@ -7,15 +7,6 @@ use borrow.Author.Needs.{needs}
 use Rattle.bemitondry.proofs.query_list.Statement.{statement}
 use Rattle.bemitondry.proofs.query_list.Tie as tie
 
-query-number-requires : tie.Need-query-number-requires
-query-number-requires c κs = search needs
-
-query-linear-requires : tie.Need-query-linear-requires
-query-linear-requires c κs = search needs
-
-element-copy-out-t13 : tie.Need-element-copy-out-t13
-element-copy-out-t13 c = search needs
-
 returns : tie.Need-returns
 unfolding queryAnswer foundOf
 returns c = rw (sym (c .before .before .before .query-number .ensures), eq-eqb _ 0 (c .before .before .if1 .taken)) (cc)
@@ -27,4 +18,5 @@ returns-2 c = rw (sym (c .before .query-number .ensures), ne-eqb _ 0 (c .if1 .le
 pub query-list-spec : {M : Type 1} → statement M
 query-list-spec =
     tie.close
-    (tie.spec query-number-requires query-linear-requires element-copy-out-t13 returns returns-2)
+    (tie.spec
+    (λ c κs. search needs) (λ c κs. search needs) (λ c. search needs) returns returns-2)

@@ -7,15 +7,6 @@ use borrow.Author.Needs.{needs}
 use Rattle.bemitondry.proofs.query_tree.Statement.{statement}
 use Rattle.bemitondry.proofs.query_tree.Tie as tie
 
-query-number-requires : tie.Need-query-number-requires
-query-number-requires c κs = search needs
-
-with-tree-requires : tie.Need-with-tree-requires
-with-tree-requires c κs = search needs
-
-search-requires : tie.Need-search-requires
-search-requires c κs = search needs
-
 returns : tie.Need-returns
 unfolding queryTreeAnswer foundOf
 returns c = rw (sym (c .before .before .before .before .query-number .ensures), sym (c .before .before .before .with-tree .ensures), eq-eqb _ 0 (c .before .before .if1 .taken)) (cc)
@@ -26,4 +17,5 @@ returns-2 c = rw (sym (c .before .before .query-number .ensures), sym (c .before
 
 pub query-tree-spec : {M : Type 1} → statement M
 query-tree-spec =
-    tie.close (tie.spec query-number-requires with-tree-requires search-requires returns returns-2)
+    tie.close (tie.spec
+    (λ c κs. search needs) (λ c κs. search needs) (λ c κs. search needs) returns returns-2)

@@ -5,9 +5,6 @@ use borrow.Author.Needs.{needs}
 use Rattle.bemitondry.proofs.with_tree.Statement.{statement}
 use Rattle.bemitondry.proofs.with_tree.Tie as tie
 
-standing-number-requires : tie.Need-standing-number-requires
-standing-number-requires c κs = search needs
-
 returns : tie.Need-returns
 unfolding withTree
 returns c = simp (eq-eqb _ 0 (c .before .if1 .taken)) (c .standing-number .ensures)
@@ -17,4 +14,5 @@ unfolding withTree
 returns-2 c = simp (ne-eqb _ 0 (c .if1 .left))
 
 pub with-tree-spec : {M : Type 1} → statement M
-with-tree-spec = tie.close (tie.spec standing-number-requires returns returns-2)
+with-tree-spec = tie.close (tie.spec
+    (λ c κs. search needs) returns returns-2)

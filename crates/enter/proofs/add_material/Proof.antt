@@ -1,6 +1,6 @@
 -- `enter::add_material` meets its contract, by the laws of loaded tables. Assumes nothing.
 use mathlib.Core.Path.{sym, _∙_}
-use Rattle.entry.specs.Entry.{AddsMaterial}
+use Rattle.plan_entry.specs.Entry.{AddsMaterial}
 use Rattle.enter.specs.Enter.{materialGiven, materialNo}
 use Rattle.lent.proofs.Loads.{words-loaded}
 use Rattle.enter.proofs.Loads.{adds-given, stored, kept-as-it-was}
@@ -8,60 +8,9 @@ use borrow.Author.Needs.{needs}
 use Rattle.enter.proofs.add_material.Statement.{statement}
 use Rattle.enter.proofs.add_material.Tie as tie
 
-slice-aggregate-load : tie.Need-slice-aggregate-load
-slice-aggregate-load c = search needs
-
-load-requires : tie.Need-load-requires
-load-requires c κs = search needs
-
-slice-aggregate-floats : tie.Need-slice-aggregate-floats
-slice-aggregate-floats c = search needs
-
-slice-aggregate-floats-2 : tie.Need-slice-aggregate-floats-2
-slice-aggregate-floats-2 c = search needs
-
-floats-requires : tie.Need-floats-requires
-floats-requires c κs = search needs
-
-short-number-requires : tie.Need-short-number-requires
-short-number-requires c κs = search needs
-
-slice-aggregate-material-given : tie.Need-slice-aggregate-material-given
-slice-aggregate-material-given c = search needs
-
-material-given-requires : tie.Need-material-given-requires
-material-given-requires c κs = search needs
-
-lower-requires : tie.Need-lower-requires
-lower-requires c κs = search needs
-
-slice-aggregate-load-plan : tie.Need-slice-aggregate-load-plan
-slice-aggregate-load-plan c = search needs
-
-load-plan-requires : tie.Need-load-plan-requires
-load-plan-requires c κs = search needs
-
-slice-aggregate-add-material : tie.Need-slice-aggregate-add-material
-slice-aggregate-add-material c = search needs
-
-add-material-requires : tie.Need-add-material-requires
-add-material-requires c κs = search needs
-
-accepted-requires : tie.Need-accepted-requires
-accepted-requires c κs = search needs
-
-store-plan-requires : tie.Need-store-plan-requires
-store-plan-requires c κs = search needs
-
-same-length : tie.Need-same-length
-same-length c = search needs
-
 returns : tie.Need-returns
 unfolding materialNo
 returns c = let h = adds-given AddsMaterial materialGiven (c .before .before .before .before .before .before .before .before .before .before .before .before .before .before .before .before .before .before .before .before .before .before .before .before .before .before .before .before .args .plan .now) _ _ _ _ _ _ _ _ _ _ (words-loaded (c .before .before .before .before .before .before .before .before .before .before .before .before .before .before .before .before .before .before .before .before .before .before .before .before .before .before .before .before .args .plan .now) _ (c .before .before .before .before .before .before .before .before .before .before .before .load-plan .ensures)) (c .before .before .before .before .before .before .before .before .before .before .before .before .before .before .before .before .before .before .before .before .before .before .before .before .load .ensures) (c .before .before .before .before .before .before .before .before .before .before .before .before .before .before .before .before .before .before .before .before .floats .ensures) (c .before .before .before .before .before .before .before .before .before .before .before .before .before .before .before .before .before .short-number .ensures) (c .before .before .before .before .before .before .before .before .before .before .before .before .before .before .before .material-given .ensures) (c .before .before .before .before .before .before .before .before .before .before .before .before .before .before .lower .ensures) (c .before .before .before .before .before .before .before .add-material .ensures) in stored _ _ _ _ _ _ _ (h .answer) (h .plan) _ (sym (c .before .before .before .before .before .before .accepted .ensures) ∙ c .before .before .before .before .before .if1 .taken) (c .before .before .store-plan .ensures)
-
-same-length-2 : tie.Need-same-length-2
-same-length-2 c = search needs
 
 returns-2 : tie.Need-returns-2
 unfolding materialNo
@@ -71,22 +20,7 @@ pub add-material-spec : {M : Type 1} → statement M
 add-material-spec =
     tie.close
     (tie.spec
-    slice-aggregate-load
-    load-requires
-    slice-aggregate-floats
-    slice-aggregate-floats-2
-    floats-requires
-    short-number-requires
-    slice-aggregate-material-given
-    material-given-requires
-    lower-requires
-    slice-aggregate-load-plan
-    load-plan-requires
-    slice-aggregate-add-material
-    add-material-requires
-    accepted-requires
-    store-plan-requires
-    same-length
-    returns
-    same-length-2
-    returns-2)
+    (λ c. search needs) (λ c κs. search needs) (λ c. search needs) (λ c. search needs) (λ c κs. search needs)
+    (λ c κs. search needs) (λ c. search needs) (λ c κs. search needs) (λ c κs. search needs)
+    (λ c. search needs) (λ c κs. search needs) (λ c. search needs) (λ c κs. search needs)
+    (λ c κs. search needs) (λ c κs. search needs) (λ c. search needs) returns (λ c. search needs) returns-2)

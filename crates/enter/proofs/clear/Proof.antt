@@ -4,12 +4,6 @@ use borrow.Author.Needs.{needs}
 use Rattle.enter.proofs.clear.Statement.{statement}
 use Rattle.enter.proofs.clear.Tie as tie
 
-clear-front-requires : tie.Need-clear-front-requires
-clear-front-requires c κs = search needs
-
-same-length : tie.Need-same-length
-same-length c = search needs
-
 returns : tie.Need-returns
 unfolding cleared
 returns c = rw (c .before .before .before .before .if1 .taken) (c .before .before .clear-front .ensures)
@@ -19,4 +13,5 @@ unfolding cleared
 returns-2 c = simp (c .if1 .left)
 
 pub clear-spec : {M : Type 1} → statement M
-clear-spec = tie.close (tie.spec clear-front-requires same-length returns returns-2)
+clear-spec = tie.close (tie.spec
+    (λ c κs. search needs) (λ c. search needs) returns returns-2)

@@ -9,16 +9,11 @@ returns : tie.Need-returns
 unfolding materialGiven
 returns c = simp (lt-leb _ _ (c .if1 .taken))
 
-material-of-requires : tie.Need-material-of-requires
-material-of-requires c κs = search needs
-
-material-number-requires : tie.Need-material-number-requires
-material-number-requires c κs = search needs
-
 returns-2 : tie.Need-returns-2
 unfolding materialGiven
 returns-2 c = simp (le-leb _ _ (c .before .before .if1 .left)) (cc)
 
 pub material-given-spec : {M : Type 1} → statement M
 material-given-spec =
-    tie.close (tie.spec returns material-of-requires material-number-requires returns-2)
+    tie.close (tie.spec
+    returns (λ c κs. search needs) (λ c κs. search needs) returns-2)

@@ -5,15 +5,9 @@ use borrow.Author.Needs.{needs}
 use Rattle.lent.proofs.dist_mat.Statement.{statement}
 use Rattle.lent.proofs.dist_mat.Tie as tie
 
-dist-mat-by-tree-requires : tie.Need-dist-mat-by-tree-requires
-dist-mat-by-tree-requires c κs = search needs
-
 returns : tie.Need-returns
 unfolding distMatReply
 returns c = simp (eq-eqb _ 1 (c .before .if1 .taken)) (c .dist-mat-by-tree .ensures)
-
-dist-mat-by-list-requires : tie.Need-dist-mat-by-list-requires
-dist-mat-by-list-requires c κs = search needs
 
 returns-2 : tie.Need-returns-2
 unfolding distMatReply
@@ -21,4 +15,5 @@ returns-2 c = simp (ne-eqb _ 1 (c .before .if1 .left)) (c .dist-mat-by-list .ens
 
 pub dist-mat-spec : {M : Type 1} → statement M
 dist-mat-spec =
-    tie.close (tie.spec dist-mat-by-tree-requires returns dist-mat-by-list-requires returns-2)
+    tie.close (tie.spec
+    (λ c κs. search needs) returns (λ c κs. search needs) returns-2)

@@ -5,36 +5,9 @@ use borrow.Author.Needs.{needs}
 use Rattle.lent.proofs.query_loaded.Statement.{statement}
 use Rattle.lent.proofs.query_loaded.Tie as tie
 
-objects-number-requires : tie.Need-objects-number-requires
-objects-number-requires c κs = search needs
-
-lower-requires : tie.Need-lower-requires
-lower-requires c κs = search needs
-
-lower-requires-2 : tie.Need-lower-requires-2
-lower-requires-2 c κs = search needs
-
-refused-requires : tie.Need-refused-requires
-refused-requires c κs = search needs
-
 returns : tie.Need-returns
 unfolding queryLoaded
 returns c = simp (lt-leb _ _ (c .before .before .before .before .if1 .taken)) (cc)
-
-vec-at-requires : tie.Need-vec-at-requires
-vec-at-requires c κs = search needs
-
-float-at-requires : tie.Need-float-at-requires
-float-at-requires c κs = search needs
-
-word-requires : tie.Need-word-requires
-word-requires c κs = search needs
-
-query-list-requires : tie.Need-query-list-requires
-query-list-requires c κs = search needs
-
-found-reply-requires : tie.Need-found-reply-requires
-found-reply-requires c κs = search needs
 
 returns-2 : tie.Need-returns-2
 unfolding queryLoaded
@@ -44,14 +17,6 @@ pub query-loaded-spec : {M : Type 1} → statement M
 query-loaded-spec =
     tie.close
     (tie.spec
-    objects-number-requires
-    lower-requires
-    lower-requires-2
-    refused-requires
-    returns
-    vec-at-requires
-    float-at-requires
-    word-requires
-    query-list-requires
-    found-reply-requires
-    returns-2)
+    (λ c κs. search needs) (λ c κs. search needs) (λ c κs. search needs) (λ c κs. search needs) returns
+    (λ c κs. search needs) (λ c κs. search needs) (λ c κs. search needs) (λ c κs. search needs)
+    (λ c κs. search needs) returns-2)

@@ -4,22 +4,11 @@ use borrow.Author.Needs.{needs}
 use Rattle.lent.proofs.tree_before.Statement.{statement}
 use Rattle.lent.proofs.tree_before.Tie as tie
 
-unless-requires : tie.Need-unless-requires
-unless-requires c κs = search needs
-
-both-requires : tie.Need-both-requires
-both-requires c κs = search needs
-
-unless-requires-2 : tie.Need-unless-requires-2
-unless-requires-2 c κs = search needs
-
-lower-requires : tie.Need-lower-requires
-lower-requires c κs = search needs
-
 returns : tie.Need-returns
 unfolding treeBefore
 returns c = cc
 
 pub tree-before-spec : {M : Type 1} → statement M
 tree-before-spec =
-    tie.close (tie.spec unless-requires both-requires unless-requires-2 lower-requires returns)
+    tie.close (tie.spec
+    (λ c κs. search needs) (λ c κs. search needs) (λ c κs. search needs) (λ c κs. search needs) returns)

@@ -4,15 +4,10 @@ use borrow.Author.Needs.{needs}
 use Rattle.lights.proofs.light_at.Statement.{statement}
 use Rattle.lights.proofs.light_at.Tie as tie
 
-plan-light-requires : tie.Need-plan-light-requires
-plan-light-requires c κs = search needs
-
-light-number-requires : tie.Need-light-number-requires
-light-number-requires c κs = search needs
-
 returns : tie.Need-returns
 unfolding lightsAt
 returns c = cc
 
 pub light-at-spec : {M : Type 1} → statement M
-light-at-spec = tie.close (tie.spec plan-light-requires light-number-requires returns)
+light-at-spec = tie.close (tie.spec
+    (λ c κs. search needs) (λ c κs. search needs) returns)

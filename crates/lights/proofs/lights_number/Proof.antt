@@ -5,8 +5,8 @@ use mathlib.Core.Path.{_≡_}
 use native.Mathlib.Nat.{zero-add}
 use native.Mathlib.Omega.{arith}
 use Rattle.words.specs.Lists.{listFrom}
-use Rattle.sound.specs.Sound.{lowest}
-use Rattle.sound.proofs.Lists.{lowest-none, lowest-more}
+use Rattle.plan_test.specs.Sound.{lowest}
+use Rattle.plan_test.proofs.Lists.{lowest-none, lowest-more}
 use Rattle.lights.specs.Lights.{lightsAt, lightsNumber}
 use Rattle.lights.proofs.lights_number.Statement.{statement}
 use Rattle.lights.proofs.lights_number.Tie as tie
@@ -20,18 +20,6 @@ abbrev μ-loop : tie.MeasureT-loop
 loop-holds : tie.Need-loop-holds Inv-loop μ-loop
 loop-holds c = (search needs, lowest-none (lightsAt (c .before .args .fs .now)) 0 0)
 
-light-at-requires : tie.Need-light-at-requires Inv-loop μ-loop
-light-at-requires c κs = search needs
-
-lower-requires : tie.Need-lower-requires Inv-loop μ-loop
-lower-requires c κs = search needs
-
-add-l : tie.Need-add-l Inv-loop μ-loop
-add-l c = search needs
-
-loop-less : tie.Need-loop-less Inv-loop μ-loop
-loop-less c = search needs
-
 loop-again : tie.Need-loop-again Inv-loop μ-loop
 loop-again c = (omega arith, rw (lowest-more, zero-add) (cc))
 
@@ -43,12 +31,5 @@ pub lights-number-spec : {M : Type 1} → statement M
 lights-number-spec =
     tie.close
     (tie.spec
-    Inv-loop
-    μ-loop
-    loop-holds
-    light-at-requires
-    lower-requires
-    add-l
-    loop-less
-    loop-again
-    returns)
+    Inv-loop μ-loop loop-holds (λ c κs. search needs) (λ c κs. search needs) (λ c. search needs)
+    (λ c. search needs) loop-again returns)

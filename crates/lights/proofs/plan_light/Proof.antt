@@ -6,21 +6,6 @@ use borrow.Author.Needs.{needs}
 use Rattle.lights.proofs.plan_light.Statement.{statement}
 use Rattle.lights.proofs.plan_light.Tie as tie
 
-vec-in-requires : tie.Need-vec-in-requires
-vec-in-requires c κs = search needs
-
-vec-in-requires-2 : tie.Need-vec-in-requires-2
-vec-in-requires-2 c κs = search needs
-
-vec-in-requires-3 : tie.Need-vec-in-requires-3
-vec-in-requires-3 c κs = search needs
-
-vec-in-requires-4 : tie.Need-vec-in-requires-4
-vec-in-requires-4 c κs = search needs
-
-vec-in-requires-5 : tie.Need-vec-in-requires-5
-vec-in-requires-5 c κs = search needs
-
 returns : tie.Need-returns
 unfolding planLight lightOf
 returns c = rw (c .vec-in5 .ensures, c .before .vec-in4 .ensures, c .before .before .vec-in3 .ensures, c .before .before .before .vec-in2 .ensures, c .before .before .before .before .vec-in .ensures, add-zero)
@@ -29,9 +14,5 @@ pub plan-light-spec : {M : Type 1} → statement M
 plan-light-spec =
     tie.close
     (tie.spec
-    vec-in-requires
-    vec-in-requires-2
-    vec-in-requires-3
-    vec-in-requires-4
-    vec-in-requires-5
-    returns)
+    (λ c κs. search needs) (λ c κs. search needs) (λ c κs. search needs) (λ c κs. search needs)
+    (λ c κs. search needs) returns)

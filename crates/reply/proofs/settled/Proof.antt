@@ -8,15 +8,10 @@ returns : tie.Need-returns
 unfolding settled
 returns c = simp (c .if1 .taken)
 
-lower-requires : tie.Need-lower-requires
-lower-requires c κs = search needs
-
-refused-requires : tie.Need-refused-requires
-refused-requires c κs = search needs
-
 returns-2 : tie.Need-returns-2
 unfolding settled
 returns-2 c = rw (c .before .before .if1 .left) (cc)
 
 pub settled-spec : {M : Type 1} → statement M
-settled-spec = tie.close (tie.spec returns lower-requires refused-requires returns-2)
+settled-spec = tie.close (tie.spec
+    returns (λ c κs. search needs) (λ c κs. search needs) returns-2)

@@ -15,11 +15,9 @@ held c = subst T (sym (c .good .0 .1)) tt
 float-to-float-result : tie.Need-float-to-float-result
 float-to-float-result c = cast-ok (c .before .before .args .x) (held (c .before .before)) (equal-no-nan (c .before .before .args .x) (c .before .if1 .taken))
 
-returns : tie.Need-returns
-returns c = search needs
-
 returns-2 : tie.Need-returns-2
 returns-2 c = at-least-nan (c .before .args .x) (c .before .args .t) (c .if1 .left)
 
 pub at-least-spec : {M : Type 1} → statement M
-at-least-spec = tie.close (tie.spec float-to-float-result returns returns-2)
+at-least-spec = tie.close (tie.spec
+    float-to-float-result (λ c. search needs) returns-2)

@@ -4,9 +4,6 @@ use borrow.Author.Needs.{needs}
 use Rattle.root.proofs.digits.Statement.{statement}
 use Rattle.root.proofs.digits.Tie as tie
 
-add-result : tie.Need-add-result
-add-result c = search needs
-
 returns : tie.Need-returns
 returns c = digs-zero _ _ (c .if1 .taken)
 
@@ -14,4 +11,5 @@ returns-2 : tie.Need-returns-2
 returns-2 c = digs-some _ _ (c .if1 .left)
 
 pub digits-spec : {M : Type 1} → statement M
-digits-spec = tie.close (tie.spec add-result returns returns-2)
+digits-spec = tie.close (tie.spec
+    (λ c. search needs) returns returns-2)

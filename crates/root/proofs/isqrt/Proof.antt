@@ -23,12 +23,6 @@ Inv-loop2 n s₀ s = (s < 4294967296) × (s * s ≤ n)
 abbrev μ-loop2 : tie.MeasureT-loop2
 μ-loop2 n s₀ s = 4294967296 - s
 
-guess-requires : tie.Need-guess-requires Inv-loop μ-loop Inv-loop2 μ-loop2
-guess-requires c κs = search needs
-
-loop-holds : tie.Need-loop-holds Inv-loop μ-loop Inv-loop2 μ-loop2
-loop-holds c = search needs
-
 mul-loop : tie.Need-mul-loop Inv-loop μ-loop Inv-loop2 μ-loop2
 mul-loop c =
     let h : c .loop .s ≤ 4294967295 = omega arith in
@@ -40,34 +34,10 @@ sub-s c = some (c .before .loop .s) _ (c .loop-test .taken)
 loop-less : tie.Need-loop-less Inv-loop μ-loop Inv-loop2 μ-loop2
 loop-less c = let h = some (c .before .loop .s) _ (c .loop-test .taken) in omega arith
 
-loop-again : tie.Need-loop-again Inv-loop μ-loop Inv-loop2 μ-loop2
-loop-again c = search needs
-
-loop2-holds : tie.Need-loop2-holds Inv-loop μ-loop Inv-loop2 μ-loop2
-loop2-holds c = search needs
-
-add-if1 : tie.Need-add-if1 Inv-loop μ-loop Inv-loop2 μ-loop2
-add-if1 c = search needs
-
-add-if1-2 : tie.Need-add-if1-2 Inv-loop μ-loop Inv-loop2 μ-loop2
-add-if1-2 c = search needs
-
 mul-if1 : tie.Need-mul-if1 Inv-loop μ-loop Inv-loop2 μ-loop2
 mul-if1 c =
     let h : c .before .loop2 .s + 1 ≤ 4294967295 = omega arith in
     omega (arith, mul-le-mul h h)
-
-returns : tie.Need-returns Inv-loop μ-loop Inv-loop2 μ-loop2
-returns c = search needs
-
-add-s : tie.Need-add-s Inv-loop μ-loop Inv-loop2 μ-loop2
-add-s c = search needs
-
-loop2-less : tie.Need-loop2-less Inv-loop μ-loop Inv-loop2 μ-loop2
-loop2-less c = search needs
-
-loop2-again : tie.Need-loop2-again Inv-loop μ-loop Inv-loop2 μ-loop2
-loop2-again c = search needs
 
 returns-2 : tie.Need-returns-2 Inv-loop μ-loop Inv-loop2 μ-loop2
 returns-2 c =
@@ -78,22 +48,6 @@ pub isqrt-spec : {M : Type 1} → statement M
 isqrt-spec =
     tie.close
     (tie.spec
-    Inv-loop
-    μ-loop
-    Inv-loop2
-    μ-loop2
-    guess-requires
-    loop-holds
-    mul-loop
-    sub-s
-    loop-less
-    loop-again
-    loop2-holds
-    add-if1
-    add-if1-2
-    mul-if1
-    returns
-    add-s
-    loop2-less
-    loop2-again
-    returns-2)
+    Inv-loop μ-loop Inv-loop2 μ-loop2 (λ c κs. search needs) (λ c. search needs) mul-loop sub-s loop-less
+    (λ c. search needs) (λ c. search needs) (λ c. search needs) (λ c. search needs) mul-if1
+    (λ c. search needs) (λ c. search needs) (λ c. search needs) (λ c. search needs) returns-2)

@@ -11,20 +11,9 @@ spare n g h k =
     let p : 0 < g = omega arith in
     div-lt-iff-lt-mul p .1 (lt-of-lt-of-le h (mul-le-mul-left 281474976710656 k))
 
-returns : tie.Need-returns
-returns c = search needs
-
-returns-2 : tie.Need-returns-2
-returns-2 c = search needs
-
-div-result : tie.Need-div-result
-div-result c = search needs
-
 add-result : tie.Need-add-result
 add-result c = omega (arith, spare (c .before .before .args .n) (c .before .before .args .g) (omega arith) (omega arith))
 
-returns-3 : tie.Need-returns-3
-returns-3 c = search needs
-
 pub mended-spec : {M : Type 1} → statement M
-mended-spec = tie.close (tie.spec returns returns-2 div-result add-result returns-3)
+mended-spec = tie.close (tie.spec
+    (λ c. search needs) (λ c. search needs) (λ c. search needs) add-result (λ c. search needs))

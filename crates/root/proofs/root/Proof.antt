@@ -15,15 +15,6 @@ held c = subst T (sym (c .good .0 .1)) tt
 float-to-bits-b : tie.Need-float-to-bits-b
 float-to-bits-b c = no-nan (c .before .args .x) (c .if1 .taken)
 
-cast-root-bits : tie.Need-cast-root-bits
-cast-root-bits c = search needs
-
-root-bits-requires : tie.Need-root-bits-requires
-root-bits-requires c κs = search needs
-
-cast-result : tie.Need-cast-result
-cast-result c = search needs
-
 float-from-bits-result : tie.Need-float-from-bits-result
 float-from-bits-result c = no-nan-bits (c .root-bits .result) (c .root-bits .ensures .0)
 
@@ -45,12 +36,5 @@ pub root-spec : {M : Type 1} → statement M
 root-spec =
     tie.close
     (tie.spec
-    float-to-bits-b
-    cast-root-bits
-    root-bits-requires
-    cast-result
-    float-from-bits-result
-    returns
-    returns-2
-    returns-3
-    returns-4)
+    float-to-bits-b (λ c. search needs) (λ c κs. search needs) (λ c. search needs) float-from-bits-result
+    returns returns-2 returns-3 returns-4)

@@ -23,12 +23,6 @@ returns c = (lit< tt, λ _. zero-is (c .before .args .b) (c .if1 .taken))
 returns-2 : tie.Need-returns-2 Inv-loop μ-loop
 returns-2 c = (lit< tt, λ h. absurd (not-le-of-lt h (c .if2 .taken)))
 
-scaled-requires : tie.Need-scaled-requires Inv-loop μ-loop
-scaled-requires c κs = search needs
-
-exponent-requires : tie.Need-exponent-requires Inv-loop μ-loop
-exponent-requires c κs = search needs
-
 add-j : tie.Need-add-j Inv-loop μ-loop
 add-j c = omega (arith, e-small (c .before .before .before .before .args .b) (c .exponent .result) (c .exponent .ensures) (omega arith))
 
@@ -55,9 +49,6 @@ loop-again c =
     let j : 1 ≤ c .before .loop .j = j-pos _ (c .before .loop .n) (c .before .loop .j) (c .before .loop .inv .0) (c .before .loop .inv .1) (omega arith) in
     (turn _ (c .before .loop .n) (c .before .loop .j) j (c .before .loop .inv .0), omega arith, omega arith, omega arith)
 
-isqrt-requires : tie.Need-isqrt-requires Inv-loop μ-loop
-isqrt-requires c κs = search needs
-
 mul-result : tie.Need-mul-result Inv-loop μ-loop
 mul-result c = omega arith
 
@@ -77,21 +68,5 @@ pub root-bits-spec : {M : Type 1} → statement M
 root-bits-spec =
     tie.close
     (tie.spec
-    Inv-loop
-    μ-loop
-    returns
-    returns-2
-    scaled-requires
-    exponent-requires
-    add-j
-    add-j-2
-    loop-holds
-    mul-n
-    sub-j
-    loop-less
-    loop-again
-    isqrt-requires
-    mul-result
-    add-result
-    add-result-2
-    returns-3)
+    Inv-loop μ-loop returns returns-2 (λ c κs. search needs) (λ c κs. search needs) add-j add-j-2 loop-holds
+    mul-n sub-j loop-less loop-again (λ c κs. search needs) mul-result add-result add-result-2 returns-3)

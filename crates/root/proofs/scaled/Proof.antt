@@ -5,12 +5,6 @@ use borrow.Author.Needs.{needs}
 use Rattle.root.proofs.scaled.Statement.{statement}
 use Rattle.root.proofs.scaled.Tie as tie
 
-digits-requires : tie.Need-digits-requires
-digits-requires c κs = search needs
-
-exponent-requires : tie.Need-exponent-requires
-exponent-requires c κs = search needs
-
 mul-result : tie.Need-mul-result
 mul-result c = omega (arith, few (c .before .before .before .args .b) (c .before .before .digits .result) (c .before .exponent .result) (c .before .before .digits .ensures) (c .before .exponent .ensures))
 
@@ -26,4 +20,5 @@ returns-2 c = (omega (arith, few (c .before .before .before .args .b) (c .before
 pub scaled-spec : {M : Type 1} → statement M
 scaled-spec =
     tie.close
-    (tie.spec digits-requires exponent-requires mul-result mul-result-2 returns returns-2)
+    (tie.spec
+    (λ c κs. search needs) (λ c κs. search needs) mul-result mul-result-2 returns returns-2)

@@ -4,24 +4,6 @@ use borrow.Author.Needs.{needs}
 use Rattle.sdf.proofs.aabb_dist.Statement.{statement}
 use Rattle.sdf.proofs.aabb_dist.Tie as tie
 
-sub-requires : tie.Need-sub-requires
-sub-requires c κs = search needs
-
-sub-requires-2 : tie.Need-sub-requires-2
-sub-requires-2 c κs = search needs
-
-max-requires : tie.Need-max-requires
-max-requires c κs = search needs
-
-splat-requires : tie.Need-splat-requires
-splat-requires c κs = search needs
-
-max-requires-2 : tie.Need-max-requires-2
-max-requires-2 c κs = search needs
-
-length-requires : tie.Need-length-requires
-length-requires c κs = search needs
-
 returns : tie.Need-returns
 unfolding boxDist
 returns c = cc
@@ -30,10 +12,5 @@ pub aabb-dist-spec : {M : Type 1} → statement M
 aabb-dist-spec =
     tie.close
     (tie.spec
-    sub-requires
-    sub-requires-2
-    max-requires
-    splat-requires
-    max-requires-2
-    length-requires
-    returns)
+    (λ c κs. search needs) (λ c κs. search needs) (λ c κs. search needs) (λ c κs. search needs)
+    (λ c κs. search needs) (λ c κs. search needs) returns)

@@ -4,12 +4,10 @@ use borrow.Author.Needs.{needs}
 use Rattle.sdf.proofs.cone_foot.Statement.{statement}
 use Rattle.sdf.proofs.cone_foot.Tie as tie
 
-clamp-requires : tie.Need-clamp-requires
-clamp-requires c κs = search needs
-
 returns : tie.Need-returns
 unfolding coneFoot
 returns c = cc
 
 pub cone-foot-spec : {M : Type 1} → statement M
-cone-foot-spec = tie.close (tie.spec clamp-requires returns)
+cone-foot-spec = tie.close (tie.spec
+    (λ c κs. search needs) returns)

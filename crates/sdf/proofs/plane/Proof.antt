@@ -4,12 +4,10 @@ use borrow.Author.Needs.{needs}
 use Rattle.sdf.proofs.plane.Statement.{statement}
 use Rattle.sdf.proofs.plane.Tie as tie
 
-dot-requires : tie.Need-dot-requires
-dot-requires c κs = search needs
-
 returns : tie.Need-returns
 unfolding plane
 returns c = cc
 
 pub plane-spec : {M : Type 1} → statement M
-plane-spec = tie.close (tie.spec dot-requires returns)
+plane-spec = tie.close (tie.spec
+    (λ c κs. search needs) returns)

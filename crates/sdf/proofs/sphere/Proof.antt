@@ -4,15 +4,10 @@ use borrow.Author.Needs.{needs}
 use Rattle.sdf.proofs.sphere.Statement.{statement}
 use Rattle.sdf.proofs.sphere.Tie as tie
 
-sub-requires : tie.Need-sub-requires
-sub-requires c κs = search needs
-
-length-requires : tie.Need-length-requires
-length-requires c κs = search needs
-
 returns : tie.Need-returns
 unfolding sphere
 returns c = cc
 
 pub sphere-spec : {M : Type 1} → statement M
-sphere-spec = tie.close (tie.spec sub-requires length-requires returns)
+sphere-spec = tie.close (tie.spec
+    (λ c κs. search needs) (λ c κs. search needs) returns)

@@ -4,15 +4,10 @@ use borrow.Author.Needs.{needs}
 use Rattle.sdf.proofs.spread.Statement.{statement}
 use Rattle.sdf.proofs.spread.Tie as tie
 
-sub-requires : tie.Need-sub-requires
-sub-requires c κs = search needs
-
-add-requires : tie.Need-add-requires
-add-requires c κs = search needs
-
 returns : tie.Need-returns
 unfolding spread
 returns c = cc
 
 pub spread-spec : {M : Type 1} → statement M
-spread-spec = tie.close (tie.spec sub-requires add-requires returns)
+spread-spec = tie.close (tie.spec
+    (λ c κs. search needs) (λ c κs. search needs) returns)

@@ -1,31 +1,13 @@
 -- `stand::raise_built` meets its contract, by the cases of its number. Assumes nothing.
 use mathlib.Core.Path.{_∙_, ap}
-use Rattle.rules.specs.Refusals.{lower}
+use Rattle.refusals.specs.Refusals.{lower}
 use Rattle.stand.proofs.Raises.{raises-low, raises-deep, raises-not}
 use borrow.Author.Needs.{needs}
 use Rattle.stand.proofs.raise_built.Statement.{statement}
 use Rattle.stand.proofs.raise_built.Tie as tie
 
-objects-number-requires : tie.Need-objects-number-requires
-objects-number-requires c κs = search needs
-
-lower-requires : tie.Need-lower-requires
-lower-requires c κs = search needs
-
-build-requires : tie.Need-build-requires
-build-requires c κs = search needs
-
-narrow-requires : tie.Need-narrow-requires
-narrow-requires c κs = search needs
-
 returns : tie.Need-returns
 returns c = raises-low _ _ _ _ _ _ _ _ _ _ ((c .before .before .before .before .before .before .lower .ensures) ∙ ap (lower _) (c .before .before .before .before .before .before .before .objects-number .ensures)) (c .before .before .before .before .before .if1 .taken) (c .before .before .build .ensures) (c .before .if2 .taken) (c .narrow .ensures)
-
-keep-requires : tie.Need-keep-requires
-keep-requires c κs = search needs
-
-keep-requires-2 : tie.Need-keep-requires-2
-keep-requires-2 c κs = search needs
 
 returns-2 : tie.Need-returns-2
 returns-2 c = raises-deep _ _ _ _ _ _ _ _ _ _ _ ((c .before .before .before .before .before .before .before .before .before .lower .ensures) ∙ ap (lower _) (c .before .before .before .before .before .before .before .before .before .before .objects-number .ensures)) (c .before .before .before .before .before .before .before .before .if1 .taken) (c .before .before .before .before .before .build .ensures) (c .before .before .before .before .if2 .left) (c .before .before .keep .ensures) (c .keep2 .ensures) (c .before .before .before .keep-arg .given .0 .1) (c .before .keep-arg2 .given .0 .1)
@@ -37,12 +19,5 @@ pub raise-built-spec : {M : Type 1} → statement M
 raise-built-spec =
     tie.close
     (tie.spec
-    objects-number-requires
-    lower-requires
-    build-requires
-    narrow-requires
-    returns
-    keep-requires
-    keep-requires-2
-    returns-2
-    returns-3)
+    (λ c κs. search needs) (λ c κs. search needs) (λ c κs. search needs) (λ c κs. search needs) returns
+    (λ c κs. search needs) (λ c κs. search needs) returns-2 returns-3)

@@ -1,34 +1,13 @@
 -- `stand::raise_offered` meets its contract, by the cases of its number. Assumes nothing.
 use mathlib.Core.Path.{sym, _∙_, ap}
-use Rattle.rules.specs.Refusals.{lower}
+use Rattle.refusals.specs.Refusals.{lower}
 use Rattle.stand.proofs.Raises.{offers, offers-bad, offers-not}
 use borrow.Author.Needs.{needs}
 use Rattle.stand.proofs.raise_offered.Statement.{statement}
 use Rattle.stand.proofs.raise_offered.Tie as tie
 
-objects-number-requires : tie.Need-objects-number-requires
-objects-number-requires c κs = search needs
-
-lower-requires : tie.Need-lower-requires
-lower-requires c κs = search needs
-
-judge-requires : tie.Need-judge-requires
-judge-requires c κs = search needs
-
-is-good-requires : tie.Need-is-good-requires
-is-good-requires c κs = search needs
-
-size-in-requires : tie.Need-size-in-requires
-size-in-requires c κs = search needs
-
-narrow-requires : tie.Need-narrow-requires
-narrow-requires c κs = search needs
-
 returns : tie.Need-returns
 returns c = offers _ _ _ _ _ _ _ _ _ _ (c .before .before .before .before .before .before .before .before .-words .given .0) ((c .before .before .before .before .before .before .lower .ensures) ∙ ap (lower _) (c .before .before .before .before .before .before .before .objects-number .ensures)) (c .before .before .before .before .before .if1 .taken) (c .before .before .before .before .judge .ensures) (sym (c .before .before .before .is-good .ensures) ∙ (c .before .before .if2 .taken)) (c .before .size-in .ensures) (c .narrow .ensures)
-
-refused-number-requires : tie.Need-refused-number-requires
-refused-number-requires c κs = search needs
 
 returns-2 : tie.Need-returns-2
 returns-2 c = offers-bad _ _ _ _ _ _ _ _ _ ((c .before .before .before .before .before .lower .ensures) ∙ ap (lower _) (c .before .before .before .before .before .before .objects-number .ensures)) (c .before .before .before .before .if1 .taken) (c .before .before .before .judge .ensures) (sym (c .before .before .is-good .ensures) ∙ (c .before .if2 .left)) (c .refused-number .ensures)
@@ -40,13 +19,5 @@ pub raise-offered-spec : {M : Type 1} → statement M
 raise-offered-spec =
     tie.close
     (tie.spec
-    objects-number-requires
-    lower-requires
-    judge-requires
-    is-good-requires
-    size-in-requires
-    narrow-requires
-    returns
-    refused-number-requires
-    returns-2
-    returns-3)
+    (λ c κs. search needs) (λ c κs. search needs) (λ c κs. search needs) (λ c κs. search needs)
+    (λ c κs. search needs) (λ c κs. search needs) returns (λ c κs. search needs) returns-2 returns-3)

@@ -9,12 +9,10 @@ returns : tie.Need-returns
 unfolding raisedReply
 returns c = simp (eq-eqb _ 0 (c .if1 .taken))
 
-refused-requires : tie.Need-refused-requires
-refused-requires c κs = search needs
-
 returns-2 : tie.Need-returns-2
 unfolding raisedReply
 returns-2 c = simp (ne-eqb _ 0 (c .before .if1 .left)) (c .refused .ensures)
 
 pub raised-reply-spec : {M : Type 1} → statement M
-raised-reply-spec = tie.close (tie.spec returns refused-requires returns-2)
+raised-reply-spec = tie.close (tie.spec
+    returns (λ c κs. search needs) returns-2)

@@ -5,21 +5,9 @@ use borrow.Author.Needs.{needs}
 use Rattle.viewer.proofs.acos_reply.Statement.{statement}
 use Rattle.viewer.proofs.acos_reply.Tie as tie
 
-refused-requires : tie.Need-refused-requires
-refused-requires c κs = search needs
-
 returns : tie.Need-returns
 unfolding acosReply
 returns c = simp (lt-leb _ _ (c .before .if1 .taken)) (cc)
-
-float-at-requires : tie.Need-float-at-requires
-float-at-requires c κs = search needs
-
-acos-requires : tie.Need-acos-requires
-acos-requires c κs = search needs
-
-scalar-reply-requires : tie.Need-scalar-reply-requires
-scalar-reply-requires c κs = search needs
 
 returns-2 : tie.Need-returns-2
 unfolding acosReply
@@ -29,9 +17,5 @@ pub acos-reply-spec : {M : Type 1} → statement M
 acos-reply-spec =
     tie.close
     (tie.spec
-    refused-requires
-    returns
-    float-at-requires
-    acos-requires
-    scalar-reply-requires
+    (λ c κs. search needs) returns (λ c κs. search needs) (λ c κs. search needs) (λ c κs. search needs)
     returns-2)

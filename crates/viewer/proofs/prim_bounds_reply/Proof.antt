@@ -5,33 +5,9 @@ use borrow.Author.Needs.{needs}
 use Rattle.viewer.proofs.prim_bounds_reply.Statement.{statement}
 use Rattle.viewer.proofs.prim_bounds_reply.Tie as tie
 
-refused-requires : tie.Need-refused-requires
-refused-requires c κs = search needs
-
 returns : tie.Need-returns
 unfolding primBoundsReply
 returns c = simp (lt-leb _ _ (c .before .if1 .taken)) (cc)
-
-word-requires : tie.Need-word-requires
-word-requires c κs = search needs
-
-vec-at-requires : tie.Need-vec-at-requires
-vec-at-requires c κs = search needs
-
-vec-at-requires-2 : tie.Need-vec-at-requires-2
-vec-at-requires-2 c κs = search needs
-
-float-at-requires : tie.Need-float-at-requires
-float-at-requires c κs = search needs
-
-float-at-requires-2 : tie.Need-float-at-requires-2
-float-at-requires-2 c κs = search needs
-
-prim-bounds-requires : tie.Need-prim-bounds-requires
-prim-bounds-requires c κs = search needs
-
-boxed-reply-requires : tie.Need-boxed-reply-requires
-boxed-reply-requires c κs = search needs
 
 returns-2 : tie.Need-returns-2
 unfolding primBoundsReply
@@ -41,13 +17,5 @@ pub prim-bounds-reply-spec : {M : Type 1} → statement M
 prim-bounds-reply-spec =
     tie.close
     (tie.spec
-    refused-requires
-    returns
-    word-requires
-    vec-at-requires
-    vec-at-requires-2
-    float-at-requires
-    float-at-requires-2
-    prim-bounds-requires
-    boxed-reply-requires
-    returns-2)
+    (λ c κs. search needs) returns (λ c κs. search needs) (λ c κs. search needs) (λ c κs. search needs)
+    (λ c κs. search needs) (λ c κs. search needs) (λ c κs. search needs) (λ c κs. search needs) returns-2)

@@ -5,21 +5,9 @@ use borrow.Author.Needs.{needs}
 use Rattle.viewer.proofs.root_reply.Statement.{statement}
 use Rattle.viewer.proofs.root_reply.Tie as tie
 
-refused-requires : tie.Need-refused-requires
-refused-requires c κs = search needs
-
 returns : tie.Need-returns
 unfolding rootReply
 returns c = simp (lt-leb _ _ (c .before .if1 .taken)) (cc)
-
-float-at-requires : tie.Need-float-at-requires
-float-at-requires c κs = search needs
-
-root-requires : tie.Need-root-requires
-root-requires c κs = search needs
-
-scalar-reply-requires : tie.Need-scalar-reply-requires
-scalar-reply-requires c κs = search needs
 
 returns-2 : tie.Need-returns-2
 unfolding rootReply
@@ -29,9 +17,5 @@ pub root-reply-spec : {M : Type 1} → statement M
 root-reply-spec =
     tie.close
     (tie.spec
-    refused-requires
-    returns
-    float-at-requires
-    root-requires
-    scalar-reply-requires
+    (λ c κs. search needs) returns (λ c κs. search needs) (λ c κs. search needs) (λ c κs. search needs)
     returns-2)

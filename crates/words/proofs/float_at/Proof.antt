@@ -7,15 +7,6 @@ use borrow.Author.Needs.{needs}
 use Rattle.words.proofs.float_at.Statement.{statement}
 use Rattle.words.proofs.float_at.Tie as tie
 
-mul-float : tie.Need-mul-float
-mul-float c = search needs
-
-shared-slice-read-float : tie.Need-shared-slice-read-float
-shared-slice-read-float c = search needs
-
-float-requires : tie.Need-float-requires
-float-requires c κs = search needs
-
 returns : tie.Need-returns
 unfolding floatAt
 returns c = c .float .ensures
@@ -26,4 +17,5 @@ returns-2 c = sym (ap (ofBits binary32) (List·getD-eq-default (c .before .befor
 
 pub float-at-spec : {M : Type 1} → statement M
 float-at-spec =
-    tie.close (tie.spec mul-float shared-slice-read-float float-requires returns returns-2)
+    tie.close (tie.spec
+    (λ c. search needs) (λ c. search needs) (λ c κs. search needs) returns returns-2)

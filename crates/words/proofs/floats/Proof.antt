@@ -17,26 +17,8 @@ abbrev μ-loop : tie.MeasureT-loop
 loop-holds : tie.Need-loop-holds Inv-loop μ-loop
 loop-holds c = (search needs, search needs, fill-none (floatAt _) (c .before .before .args .fs .now))
 
-float-at-requires : tie.Need-float-at-requires Inv-loop μ-loop
-float-at-requires c κs = search needs
-
-mul-fs : tie.Need-mul-fs Inv-loop μ-loop
-mul-fs c = search needs
-
-slice-write-fs : tie.Need-slice-write-fs Inv-loop μ-loop
-slice-write-fs c = search needs
-
-add-i : tie.Need-add-i Inv-loop μ-loop
-add-i c = search needs
-
-loop-less : tie.Need-loop-less Inv-loop μ-loop
-loop-less c = search needs
-
 loop-again : tie.Need-loop-again Inv-loop μ-loop
 loop-again c = let l = c .before .before .loop in (search needs, search needs, fill-more (floatAt _) (l .fs) (l .i) _ (search needs) (c .float-at .ensures) (l .inv .2))
-
-same-length : tie.Need-same-length Inv-loop μ-loop
-same-length c = search needs
 
 returns : tie.Need-returns Inv-loop μ-loop
 returns c = let l = c .before .loop in fill-all (floatAt _) (l .fs) (l .i) _ (l .inv .1) (search needs) (search needs) (l .inv .2)
@@ -45,14 +27,5 @@ pub floats-spec : {M : Type 1} → statement M
 floats-spec =
     tie.close
     (tie.spec
-    Inv-loop
-    μ-loop
-    loop-holds
-    float-at-requires
-    mul-fs
-    slice-write-fs
-    add-i
-    loop-less
-    loop-again
-    same-length
-    returns)
+    Inv-loop μ-loop loop-holds (λ c κs. search needs) (λ c. search needs) (λ c. search needs)
+    (λ c. search needs) (λ c. search needs) loop-again (λ c. search needs) returns)

@@ -21,26 +21,8 @@ Inv-loop2 b words₀ m i₀ words i = (i ≤ length words₀) × (length words �
 abbrev μ-loop2 : tie.MeasureT-loop2
 μ-loop2 b words₀ m i₀ words i = length words₀ - i
 
-lesser-requires : tie.Need-lesser-requires Inv-loop μ-loop Inv-loop2 μ-loop2
-lesser-requires c κs = search needs
-
 loop-holds : tie.Need-loop-holds Inv-loop μ-loop Inv-loop2 μ-loop2
 loop-holds c = (search needs, search needs, search needs, fill-none (wordAt (c .before .before .before .args .b .now)) (c .before .before .before .args .words .now))
-
-word-requires : tie.Need-word-requires Inv-loop μ-loop Inv-loop2 μ-loop2
-word-requires c κs = search needs
-
-mul-words : tie.Need-mul-words Inv-loop μ-loop Inv-loop2 μ-loop2
-mul-words c = search needs
-
-slice-write-words : tie.Need-slice-write-words Inv-loop μ-loop Inv-loop2 μ-loop2
-slice-write-words c = search needs
-
-add-i : tie.Need-add-i Inv-loop μ-loop Inv-loop2 μ-loop2
-add-i c = search needs
-
-loop-less : tie.Need-loop-less Inv-loop μ-loop Inv-loop2 μ-loop2
-loop-less c = search needs
 
 loop-again : tie.Need-loop-again Inv-loop μ-loop Inv-loop2 μ-loop2
 loop-again c = let l = c .before .before .loop in (search needs, search needs, search needs, fill-more (wordAt _) (l .words) (l .i) _ (search needs) (c .word .ensures) (l .inv .3))
@@ -48,26 +30,8 @@ loop-again c = let l = c .before .before .loop in (search needs, search needs, s
 loop2-holds : tie.Need-loop2-holds Inv-loop μ-loop Inv-loop2 μ-loop2
 loop2-holds c = (search needs, search needs, c .before .loop .inv .3)
 
-word-requires-2 : tie.Need-word-requires-2 Inv-loop μ-loop Inv-loop2 μ-loop2
-word-requires-2 c κs = search needs
-
-mul-words-2 : tie.Need-mul-words-2 Inv-loop μ-loop Inv-loop2 μ-loop2
-mul-words-2 c = search needs
-
-slice-write-words-2 : tie.Need-slice-write-words-2 Inv-loop μ-loop Inv-loop2 μ-loop2
-slice-write-words-2 c = search needs
-
-add-i-2 : tie.Need-add-i-2 Inv-loop μ-loop Inv-loop2 μ-loop2
-add-i-2 c = search needs
-
-loop2-less : tie.Need-loop2-less Inv-loop μ-loop Inv-loop2 μ-loop2
-loop2-less c = search needs
-
 loop2-again : tie.Need-loop2-again Inv-loop μ-loop Inv-loop2 μ-loop2
 loop2-again c = let l = c .before .before .loop2 in (search needs, search needs, fill-more (wordAt _) (l .words) (l .i) _ (search needs) (c .word2 .ensures) (l .inv .2))
-
-same-length : tie.Need-same-length Inv-loop μ-loop Inv-loop2 μ-loop2
-same-length c = search needs
 
 returns : tie.Need-returns Inv-loop μ-loop Inv-loop2 μ-loop2
 returns c = let l = c .before .loop2 in fill-all (wordAt _) (l .words) (l .i) _ (l .inv .1 ∙ c .before .before .before .loop .inv .2) (search needs) (search needs) (l .inv .2)
@@ -76,24 +40,7 @@ pub load-spec : {M : Type 1} → statement M
 load-spec =
     tie.close
     (tie.spec
-    Inv-loop
-    μ-loop
-    Inv-loop2
-    μ-loop2
-    lesser-requires
-    loop-holds
-    word-requires
-    mul-words
-    slice-write-words
-    add-i
-    loop-less
-    loop-again
-    loop2-holds
-    word-requires-2
-    mul-words-2
-    slice-write-words-2
-    add-i-2
-    loop2-less
-    loop2-again
-    same-length
-    returns)
+    Inv-loop μ-loop Inv-loop2 μ-loop2 (λ c κs. search needs) loop-holds (λ c κs. search needs)
+    (λ c. search needs) (λ c. search needs) (λ c. search needs) (λ c. search needs) loop-again loop2-holds
+    (λ c κs. search needs) (λ c. search needs) (λ c. search needs) (λ c. search needs) (λ c. search needs)
+    loop2-again (λ c. search needs) returns)

@@ -5,12 +5,6 @@ use borrow.Author.Needs.{needs}
 use Rattle.words.proofs.send.Statement.{statement}
 use Rattle.words.proofs.send.Tie as tie
 
-store-requires : tie.Need-store-requires
-store-requires c κs = search needs
-
-same-length : tie.Need-same-length
-same-length c = search needs
-
 returns : tie.Need-returns
 unfolding sentWords
 returns c = simp (le-leb _ _ (c .before .before .before .before .if1 .taken)) (c .before .before .store .ensures)
@@ -20,4 +14,5 @@ unfolding sentWords
 returns-2 c = simp (lt-leb _ _ (c .if1 .left))
 
 pub send-spec : {M : Type 1} → statement M
-send-spec = tie.close (tie.spec store-requires same-length returns returns-2)
+send-spec = tie.close (tie.spec
+    (λ c κs. search needs) (λ c. search needs) returns returns-2)

@@ -5,33 +5,6 @@ use borrow.Author.Needs.{needs}
 use Rattle.words.proofs.word.Statement.{statement}
 use Rattle.words.proofs.word.Tie as tie
 
-mul-p : tie.Need-mul-p
-mul-p c = search needs
-
-shared-slice-read-four : tie.Need-shared-slice-read-four
-shared-slice-read-four c = search needs
-
-add-four : tie.Need-add-four
-add-four c = search needs
-
-shared-slice-read-four-2 : tie.Need-shared-slice-read-four-2
-shared-slice-read-four-2 c = search needs
-
-add-four-2 : tie.Need-add-four-2
-add-four-2 c = search needs
-
-shared-slice-read-four-3 : tie.Need-shared-slice-read-four-3
-shared-slice-read-four-3 c = search needs
-
-add-four-3 : tie.Need-add-four-3
-add-four-3 c = search needs
-
-shared-slice-read-four-4 : tie.Need-shared-slice-read-four-4
-shared-slice-read-four-4 c = search needs
-
-four-requires : tie.Need-four-requires
-four-requires c κs = search needs
-
 returns : tie.Need-returns
 unfolding wordAt
 returns c = simp (lt-ltb _ _ (c .before .before .before .before .before .if1 .taken)) (c .four .ensures)
@@ -44,14 +17,5 @@ pub word-spec : {M : Type 1} → statement M
 word-spec =
     tie.close
     (tie.spec
-    mul-p
-    shared-slice-read-four
-    add-four
-    shared-slice-read-four-2
-    add-four-2
-    shared-slice-read-four-3
-    add-four-3
-    shared-slice-read-four-4
-    four-requires
-    returns
-    returns-2)
+    (λ c. search needs) (λ c. search needs) (λ c. search needs) (λ c. search needs) (λ c. search needs)
+    (λ c. search needs) (λ c. search needs) (λ c. search needs) (λ c κs. search needs) returns returns-2)

@@ -4,15 +4,10 @@ use borrow.Author.Needs.{needs}
 use Rattle.sdf.proofs.Aabb.centre.Statement.{statement}
 use Rattle.sdf.proofs.Aabb.centre.Tie as tie
 
-add-requires : tie.Need-add-requires
-add-requires c κs = search needs
-
-scale-requires : tie.Need-scale-requires
-scale-requires c κs = search needs
-
 returns : tie.Need-returns
 unfolding centreOf
 returns c = cc
 
 pub centre-spec : {M : Type 1} → statement M
-centre-spec = tie.close (tie.spec add-requires scale-requires returns)
+centre-spec = tie.close (tie.spec
+    (λ c κs. search needs) (λ c κs. search needs) returns)

@@ -4,15 +4,10 @@ use borrow.Author.Needs.{needs}
 use Rattle.vec.proofs.Vec3.length.Statement.{statement}
 use Rattle.vec.proofs.Vec3.length.Tie as tie
 
-dot-requires : tie.Need-dot-requires
-dot-requires c κs = search needs
-
-root-requires : tie.Need-root-requires
-root-requires c κs = search needs
-
 returns : tie.Need-returns
 unfolding vlength
 returns c = cc
 
 pub length-spec : {M : Type 1} → statement M
-length-spec = tie.close (tie.spec dot-requires root-requires returns)
+length-spec = tie.close (tie.spec
+    (λ c κs. search needs) (λ c κs. search needs) returns)

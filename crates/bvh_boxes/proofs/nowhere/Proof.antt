@@ -1,0 +1,13 @@
+-- `bvh_boxes::nowhere` meets its contract. Assumes nothing.
+use Rattle.vec.specs.Vec.{vsplat}
+use borrow.Author.Needs.{needs}
+use Rattle.bvh_boxes.proofs.nowhere.Statement.{statement}
+use Rattle.bvh_boxes.proofs.nowhere.Tie as tie
+
+returns : tie.Need-returns
+unfolding vsplat
+returns c = cc
+
+pub nowhere-spec : {M : Type 1} → statement M
+nowhere-spec = tie.close (tie.spec
+    (λ c κs. search needs) (λ c κs. search needs) returns)

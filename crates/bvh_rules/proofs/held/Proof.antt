@@ -1,0 +1,13 @@
+-- `bvh_rules::held` meets its contract, by those of its calls. Assumes nothing.
+use Rattle.bvh_rules.specs.Check.{heldAt}
+use borrow.Author.Needs.{needs}
+use Rattle.bvh_rules.proofs.held.Statement.{statement}
+use Rattle.bvh_rules.proofs.held.Tie as tie
+
+returns : tie.Need-returns
+unfolding heldAt
+returns c = cc
+
+pub held-spec : {M : Type 1} → statement M
+held-spec = tie.close (tie.spec
+    (λ c κs. search needs) (λ c κs. search needs) (λ c κs. search needs) returns)

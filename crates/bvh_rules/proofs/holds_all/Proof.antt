@@ -1,0 +1,32 @@
+-- `bvh_rules::holds_all` meets its contract: what was passed lies within b. Assumes nothing.
+use borrow.Author.Needs.{needs}
+use Prim.Native.Nat.{_≤_, _-_}
+use mathlib.Core.Path.{_≡_}
+use native.Mathlib.Omega.{arith}
+use Rattle.bvh_boxes.specs.Boxes.{boxesOf}
+use Rattle.bvh_rules.specs.Check.{holdsAll}
+use Rattle.bvh_rules.proofs.Lists.{holds-none, holds-more}
+use Rattle.bvh_rules.proofs.holds_all.Statement.{statement}
+use Rattle.bvh_rules.proofs.holds_all.Tie as tie
+
+abbrev Inv-loop : tie.InvT-loop
+Inv-loop ow ws fs b start count so₀ j₀ so j = (j ≤ count) × (so ≡ holdsAll ow (boxesOf ws fs) b start j)
+
+abbrev μ-loop : tie.MeasureT-loop
+μ-loop ow ws fs b start count so₀ j₀ so j = count - j
+
+loop-holds : tie.Need-loop-holds Inv-loop μ-loop
+loop-holds c = let a = c .args in (search needs, holds-none (a .ow .now) (boxesOf (a .ws .now) (a .fs .now)) (a .b) (a .start))
+
+loop-again : tie.Need-loop-again Inv-loop μ-loop
+loop-again c = (omega arith, rw holds-more (cc))
+
+returns : tie.Need-returns Inv-loop μ-loop
+returns c = let e : c .before .loop .j ≡ c .before .before .args .count = omega arith in cc
+
+pub holds-all-spec : {M : Type 1} → statement M
+holds-all-spec =
+    tie.close
+    (tie.spec
+    Inv-loop μ-loop loop-holds (λ c. search needs) (λ c. search needs) (λ c κs. search needs)
+    (λ c κs. search needs) (λ c. search needs) (λ c. search needs) loop-again returns)

@@ -1,0 +1,16 @@
+-- `bvh_search::box_square` meets its contract. Assumes nothing.
+use Rattle.bvh_search.specs.Machine.{boxSquare}
+use borrow.Author.Needs.{needs}
+use Rattle.bvh_search.proofs.box_square.Statement.{statement}
+use Rattle.bvh_search.proofs.box_square.Tie as tie
+
+returns : tie.Need-returns
+unfolding boxSquare
+returns c = cc
+
+pub box-square-spec : {M : Type 1} → statement M
+box-square-spec =
+    tie.close
+    (tie.spec
+    (λ c κs. search needs) (λ c κs. search needs) (λ c κs. search needs) (λ c κs. search needs)
+    (λ c κs. search needs) (λ c κs. search needs) returns)

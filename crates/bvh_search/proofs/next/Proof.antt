@@ -1,0 +1,21 @@
+-- `bvh_search::next` meets its contract. Assumes nothing.
+use Rattle.bvh_search.specs.Machine.{nextOf}
+use borrow.Author.Tests.{eq-eqb, ne-eqb}
+use borrow.Author.Needs.{needs}
+use Rattle.bvh_search.proofs.next.Statement.{statement}
+use Rattle.bvh_search.proofs.next.Tie as tie
+
+returns : tie.Need-returns
+unfolding nextOf
+returns c = rw (eq-eqb _ 0 (c .before .if1 .taken)) (cc)
+
+returns-2 : tie.Need-returns-2
+unfolding nextOf
+returns-2 c = rw (ne-eqb _ 0 (c .before .before .before .before .if1 .left)) (cc)
+
+pub next-spec : {M : Type 1} → statement M
+next-spec =
+    tie.close
+    (tie.spec
+    (λ c κs. search needs) returns (λ c. search needs) (λ c κs. search needs) (λ c κs. search needs)
+    (λ c κs. search needs) returns-2)

@@ -1,0 +1,11 @@
+-- `bvh_search::popping` meets its contract. Assumes nothing.
+use borrow.Author.Needs.{needs}
+use Rattle.bvh_search.proofs.popping.Statement.{statement}
+use Rattle.bvh_search.proofs.popping.Tie as tie
+
+returns : tie.Need-returns
+returns c = cc
+
+pub popping-spec : {M : Type 1} → statement M
+popping-spec = tie.close (tie.spec
+    (λ c κs. search needs) returns)

@@ -1,0 +1,52 @@
+-- `bvh_search::run` meets its contract: each turn of the loop is a pop, after which what is still to run is the whole run. Assumes nothing.
+use borrow.Author.Needs.{needs}
+use Prim.Native.Nat.{_-_}
+use mathlib.Core.Path.{refl}
+use mathlib.Core.List.{[], _∷_}
+use native.Mathlib.Omega.{arith}
+use Rattle.bvh_search.specs.Search.{runOf}
+use Rattle.bvh_search.proofs.Machine.{Busy, step-law, ran-out}
+use Rattle.bvh_search.proofs.run.Statement.{statement}
+use Rattle.bvh_search.proofs.run.Tie as tie
+
+abbrev Inv-loop : tie.InvT-loop
+Inv-loop nw nf ow ws fs p stack₀ keys₀ s₀ stack keys s = Busy nw nf ow ws fs p (runOf nw nf ow ws fs p 511 (0 ∷ []) (s₀ .hit) 0 0) stack keys s
+
+abbrev μ-loop : tie.MeasureT-loop
+μ-loop nw nf ow ws fs p stack₀ keys₀ s₀ stack keys s = 511 - s .popped
+
+loop-holds : tie.Need-loop-holds Inv-loop μ-loop
+loop-holds c = record {
+  waits = record {
+    long = c .before .before .before .-stack2 .given .0;
+    wide = c .before .-keys2 .given .0;
+    room = omega arith;
+    small = omega arith;
+    going = refl;
+    held = λ k h. absurd (omega arith);
+  };
+  key = c .square-at .ensures;
+  run = refl;
+}
+
+returns : tie.Need-returns Inv-loop μ-loop
+returns c = let x = c .before .before .before .before in
+    step-law _ _ _ _ _ _ _ _ _ _ (x .before .before .before .before .before .loop .inv) (x .before .before .before .if1 .taken) _ (x .step .ensures) .off (c .before .before .if2 .taken)
+
+loop-less : tie.Need-loop-less Inv-loop μ-loop
+loop-less c = let x = c .before .before in
+    omega (arith, x .before .before .before .if1 .taken, step-law _ _ _ _ _ _ _ _ _ _ (x .before .before .before .before .before .loop .inv) (x .before .before .before .if1 .taken) _ (x .step .ensures) .pops)
+
+loop-again : tie.Need-loop-again Inv-loop μ-loop
+loop-again c = let x = c .before .before in
+    step-law _ _ _ _ _ _ _ _ _ _ (x .before .before .before .before .before .loop .inv) (x .before .before .before .if1 .taken) _ (x .step .ensures) .on (c .if2 .left)
+
+returns-2 : tie.Need-returns-2 Inv-loop μ-loop
+returns-2 c = ran-out _ _ _ _ _ _ _ _ _ _ (c .before .before .before .loop .inv) (c .before .if1 .left)
+
+pub run-spec : {M : Type 1} → statement M
+run-spec =
+    tie.close
+    (tie.spec
+    Inv-loop μ-loop (λ c κs. search needs) loop-holds (λ c κs. search needs) returns loop-less loop-again
+    returns-2)

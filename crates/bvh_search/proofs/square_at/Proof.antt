@@ -1,0 +1,13 @@
+-- `bvh_search::square_at` meets its contract. Assumes nothing.
+use Rattle.bvh_search.specs.Machine.{squareAt}
+use borrow.Author.Needs.{needs}
+use Rattle.bvh_search.proofs.square_at.Statement.{statement}
+use Rattle.bvh_search.proofs.square_at.Tie as tie
+
+returns : tie.Need-returns
+unfolding squareAt
+returns c = cc
+
+pub square-at-spec : {M : Type 1} → statement M
+square-at-spec = tie.close (tie.spec
+    (λ c κs. search needs) (λ c κs. search needs) returns)

@@ -1,0 +1,23 @@
+-- `bvh_search::step` meets its contract. Assumes nothing.
+use mathlib.Core.Path.{sym}
+use Rattle.bvh_search.specs.Machine.{steppedOf}
+use borrow.Author.Needs.{needs}
+use Rattle.bvh_search.proofs.step.Statement.{statement}
+use Rattle.bvh_search.proofs.step.Tie as tie
+
+returns : tie.Need-returns
+unfolding steppedOf
+returns c = let test = c .before .before .before .before in
+    rw (sym (test .before .far-off .ensures), test .if1 .taken) (cc)
+
+returns-2 : tie.Need-returns-2
+unfolding steppedOf
+returns-2 c = let test = c .before .before .before .before .before in
+    rw (sym (test .before .far-off .ensures), test .if1 .left) (cc)
+
+pub step-spec : {M : Type 1} → statement M
+step-spec =
+    tie.close
+    (tie.spec
+    (λ c κs. search needs) (λ c κs. search needs) (λ c κs. search needs) returns (λ c κs. search needs)
+    (λ c κs. search needs) (λ c κs. search needs) returns-2)

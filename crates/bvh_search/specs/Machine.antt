@@ -1,0 +1,104 @@
+-- The search as the code holds it: the node in hand with the square of its box distance, and the others in two tables of 64 places, the last on top.
+-- Definitions only; that it comes to `runOf` is shown in proofs/Machine.antt.
+use Prim.Native.Nat.{ℕ, _+_, _-_, _%_, _^_}
+use mathlib.Core.Bool.{Bool, false, not, cond}
+use mathlib.Core.List.{List}
+use lib.ListN.{getD, set}
+use lib.Dec.{ltb, eqb}
+use lib.Ieee.{Float, nan, lt, le}
+use Rattle.root.specs.Root.{rootOf}
+use Rattle.scalar.specs.F32.{f0}
+use Rattle.vec.specs.declared.Vec3.{Vec3}
+use Rattle.vec.specs.Vec.{vsplat, vsub, vmax, vdot}
+use Rattle.sdf.specs.declared.Aabb.{Aabb}
+use Rattle.refusals.specs.Ranges.{greatest}
+use Rattle.plan.specs.declared.DistHit.{DistHit}
+use Rattle.bvh_rules.specs.declared.Node.{Node}
+use Rattle.bvh_rules.specs.Nodes.{nodeAt}
+use Rattle.bvh_search.specs.declared.State.{State}
+use Rattle.bvh_search.specs.Search.{leafHit, placesOf}
+
+-- the square of a box distance
+abbrev pub gapOf : Vec3 → Aabb → Vec3
+gapOf p b = vmax (vmax (vsub (b .lo) p) (vsub p (b .hi))) (vsplat f0)
+
+unfoldable pub boxSquare : Vec3 → Aabb → Float
+boxSquare p b = vdot (gapOf p b) (gapOf p b)
+
+-- above zero and finite
+unfoldable pub usual : Float → Bool
+usual x = cond (lt f0 x) (le x greatest) false
+
+unfoldable pub farOff : Float → Float → Bool
+farOff s d = le d (rootOf s)
+
+-- b lies above the root of l, and not above that of r
+unfoldable pub partsRoots : Float → Float → Float → Bool
+partsRoots l r b = cond (farOff r b) (not (farOff l b)) false
+
+unfoldable pub leftFirst : Float → Float → Bool
+leftFirst l r = lt (rootOf l) (rootOf r)
+
+-- the state with the node a in hand
+abbrev pub holding : State → ℕ → Float → ℕ → State
+holding s a key sp =
+    record { at = a; key = key; sp = sp; hit = s .hit; popped = s .popped; evaluated = s .evaluated; done = s .done }
+
+abbrev pub ended : State → ℕ → State
+ended s how =
+    record { at = s .at; key = s .key; sp = s .sp; hit = s .hit; popped = s .popped; evaluated = s .evaluated; done = how }
+
+abbrev pub popping : State → State
+popping s =
+    record { at = s .at; key = s .key; sp = s .sp; hit = s .hit; popped = (s .popped + 1) % 2 ^ 32; evaluated = s .evaluated; done = s .done }
+
+abbrev pub scanned : State → DistHit → ℕ → State
+scanned s h c =
+    record { at = s .at; key = s .key; sp = s .sp; hit = h; popped = s .popped; evaluated = (s .evaluated + c) % 2 ^ 32; done = s .done }
+
+-- the next waiting node in hand, or the end
+unfoldable pub nextOf : List ℕ → List Float → State → State
+nextOf stack keys s = cond (eqb (s .sp) 0) (ended s 1) (holding s (getD stack (s .sp - 1) 0) (getD keys (s .sp - 1) nan) (s .sp - 1))
+
+pub record Tables : Type 0 where
+  pub stack : List ℕ
+  pub keys : List Float
+  pub state : State
+
+abbrev pub tables : List ℕ → List Float → State → Tables
+tables stack keys s = record { stack = stack; keys = keys; state = s }
+
+-- a and its key waiting, b in hand
+abbrev pub twoOf : List ℕ → List Float → State → ℕ → Float → ℕ → Float → Tables
+twoOf stack keys s a ka b kb = tables (set stack (s .sp) a) (set keys (s .sp) ka) (holding s b kb (s .sp + 1))
+
+unfoldable pub squareAt : List ℕ → List Float → Vec3 → ℕ → Float
+squareAt nw nf p a = boxSquare p (nodeAt nw nf a .hull)
+
+-- two children: the farther one waits
+unfoldable pub childrenOf : List ℕ → List Float → Vec3 → List ℕ → List Float → State → ℕ → ℕ → Tables
+childrenOf nw nf p stack keys s l r =
+    cond (ltb 62 (s .sp)) (tables stack keys (ended s 2))
+    (cond (leftFirst (squareAt nw nf p l) (squareAt nw nf p r))
+    (twoOf stack keys s r (squareAt nw nf p r) l (squareAt nw nf p l))
+    (twoOf stack keys s l (squareAt nw nf p l) r (squareAt nw nf p r)))
+
+unfoldable pub scannedOf : List ℕ → List ℕ → List Float → Vec3 → List ℕ → List Float → State → Node → State
+scannedOf o w f p stack keys s v = nextOf stack keys (scanned s (leafHit w f o p (v .start) (placesOf v) (s .hit)) (placesOf v))
+
+module _ (nw : List ℕ) (nf : List Float) (o : List ℕ) (w : List ℕ) (f : List Float) (p : Vec3) where
+  -- the node in hand, near enough
+  unfoldable pub openedOf : List ℕ → List Float → State → Node → Tables
+  openedOf stack keys s v =
+      cond (ltb (s .at) 511)
+      (cond (eqb (v .count) 0)
+      (childrenOf nw nf p stack keys s (s .at + 1) (v .right))
+      (tables stack keys (scannedOf o w f p stack keys s v)))
+      (tables stack keys (nextOf stack keys s))
+
+  -- one pop
+  unfoldable pub steppedOf : List ℕ → List Float → State → Tables
+  steppedOf stack keys s =
+      cond (farOff (s .key) (s .hit .d))
+      (tables stack keys (nextOf stack keys (popping s)))
+      (openedOf stack keys (popping s) (nodeAt nw nf (s .at)))

@@ -1,0 +1,16 @@
+-- `bvh_split::cut` meets its contract. Assumes nothing.
+use borrow.Author.Needs.{needs}
+use Rattle.bvh_split.specs.Part.{splitOf, cutOf}
+use Rattle.bvh_split.proofs.cut.Statement.{statement}
+use Rattle.bvh_split.proofs.cut.Tie as tie
+
+returns : tie.Need-returns
+unfolding splitOf cutOf
+returns c = ((cc), (cc))
+
+pub cut-spec : {M : Type 1} → statement M
+cut-spec =
+    tie.close
+    (tie.spec
+    (λ c κs. search needs) (λ c κs. search needs) (λ c κs. search needs) (λ c κs. search needs)
+    (λ c. search needs) returns)

@@ -1,0 +1,13 @@
+-- `bvh_split::extent` meets its contract. Assumes nothing.
+use borrow.Author.Needs.{needs}
+use Rattle.bvh_split.specs.Range.{extentOf}
+use Rattle.bvh_split.proofs.extent.Statement.{statement}
+use Rattle.bvh_split.proofs.extent.Tie as tie
+
+returns : tie.Need-returns
+unfolding extentOf
+returns c = cc
+
+pub extent-spec : {M : Type 1} → statement M
+extent-spec = tie.close (tie.spec
+    (λ c κs. search needs) returns)

@@ -1,0 +1,14 @@
+-- `bvh_split::grid_of` meets its contract. Assumes nothing.
+use borrow.Author.Needs.{needs}
+use Rattle.bvh_split.specs.Bins.{gridOf}
+use Rattle.bvh_split.proofs.grid_of.Statement.{statement}
+use Rattle.bvh_split.proofs.grid_of.Tie as tie
+
+returns : tie.Need-returns
+unfolding gridOf
+returns c = cc
+
+pub grid-of-spec : {M : Type 1} → statement M
+grid-of-spec =
+    tie.close (tie.spec
+    (λ c κs. search needs) (λ c κs. search needs) (λ c κs. search needs) (λ c κs. search needs) returns)

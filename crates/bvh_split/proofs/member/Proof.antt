@@ -1,0 +1,11 @@
+-- `bvh_split::member` meets its contract. Assumes nothing.
+use borrow.Author.Needs.{needs}
+use Rattle.bvh_split.proofs.member.Statement.{statement}
+use Rattle.bvh_split.proofs.member.Tie as tie
+
+returns : tie.Need-returns
+returns c = cc
+
+pub member-spec : {M : Type 1} → statement M
+member-spec = tie.close (tie.spec
+    (λ c κs. search needs) (λ c. search needs) (λ c κs. search needs) returns)

@@ -1,0 +1,13 @@
+-- `bvh_split::take_bin` meets its contract. Assumes nothing.
+use borrow.Author.Needs.{needs}
+use Rattle.bvh_split.specs.Bins.{takeBin}
+use Rattle.bvh_split.proofs.take_bin.Statement.{statement}
+use Rattle.bvh_split.proofs.take_bin.Tie as tie
+
+returns : tie.Need-returns
+unfolding takeBin
+returns c = cc
+
+pub take-bin-spec : {M : Type 1} → statement M
+take-bin-spec = tie.close (tie.spec
+    (λ c κs. search needs) (λ c κs. search needs) returns)

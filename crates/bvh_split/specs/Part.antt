@@ -1,0 +1,47 @@
+-- "Partition by the source's swaps. A split with an empty side becomes count/2." Definitions only.
+use Prim.Native.Nat.{ℕ, zero, suc, _+_, _/_}
+use mathlib.Core.Bool.{Bool, cond, _||_}
+use mathlib.Core.List.{List}
+use lib.ListN.{length, getD, set}
+use lib.Dec.{ltb, leb, eqb}
+use Rattle.sdf.specs.declared.Aabb.{Aabb}
+use Rattle.bvh_boxes.specs.Boxes.{boxAt}
+use Rattle.bvh_split.specs.declared.Grid.{Grid}
+use Rattle.bvh_split.specs.declared.Span.{Span}
+use Rattle.bvh_split.specs.Range.{members, spanOf, extentOf, stops}
+use Rattle.bvh_split.specs.Bins.{gridOf, binOf, noBins, binsFrom, splitBy}
+
+-- the elements at i and j exchanged, where both are there
+unfoldable pub swapped : ℕ → ℕ → List ℕ → List ℕ
+swapped i j xs = cond (ltb i (length xs)) (cond (ltb j (length xs)) (set (set xs i (getD xs j 0)) j (getD xs i 0)) xs) xs
+
+unfoldable pub goesLeft : List Aabb → Grid → ℕ → ℕ → Bool
+goesLeft bs g split o = ltb (binOf g (boxAt bs o)) split
+
+pub record Parted : Type 0 where
+  pub mid : ℕ
+  pub order : List ℕ
+
+-- n more steps, from place i on
+unfoldable pub partFrom : List Aabb → Grid → ℕ → ℕ → ℕ → ℕ → List ℕ → Parted
+partFrom bs g split zero i mid os = record { mid = mid; order = os }
+partFrom bs g split (suc n) i mid os =
+    partFrom bs g split n (i + 1)
+    (cond (goesLeft bs g split (getD os i 0)) (mid + 1) mid)
+    (cond (goesLeft bs g split (getD os i 0)) (swapped i mid os) os)
+
+unfoldable pub parted : List Aabb → Grid → ℕ → List ℕ → Parted
+parted bs g split os = partFrom bs g split (length os) 0 0 os
+
+unfoldable pub evened : ℕ → ℕ → ℕ
+evened mid n = cond (eqb mid 0 || eqb mid n) (n / 2) mid
+
+-- the split that the source takes of a range whose centres lie in c
+unfoldable pub splitOf : List Aabb → List ℕ → Aabb → ℕ
+splitOf bs os c = splitBy (binsFrom (gridOf c) noBins (members bs os))
+
+-- the range in two parts
+unfoldable pub cutOf : List Aabb → List ℕ → Aabb → Parted
+cutOf bs os c =
+    let p = parted bs (gridOf c) (splitOf bs os c) os in
+    record { mid = evened (p .mid) (length os); order = p .order }

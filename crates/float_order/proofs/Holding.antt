@@ -1,0 +1,189 @@
+-- Rounding does not cross a value that the format holds: a fraction of at least x rounds to at least x. So what is not negative moves a sum up, and a
+-- difference down. Assumes nothing.
+use mathlib.Core.Path.{_≡_, refl, sym, ap, subst, _∙_}
+use mathlib.Core.Bool.{Bool, true, false, cond, not, _&&_, true≢false}
+use Prim.Native.Nat.{ℕ, zero, suc, _+_, _-_, _*_, _/_, _%_, _^_, _≤_, _<_}
+use native.Mathlib.Nat.{add-mul, mul-assoc, mul-comm, mul-right-comm, mul-pos, zero-lt-suc, mul-one, zero-mul, mul-lt-mul-of-pos-right, lt-of-lt-of-le, lt-of-not-le, not-le-of-lt, le-of-eq, le-of-suc-le-suc}
+use native.Mathlib.Omega.{arith}
+use lib.Dec.{T, leb, ltb, eqb, ltb→lt, leb→le, eqb→eq}
+use lib.IntN.{ℤ, pos, negsuc}
+use lib.Pow.{pow-add, pow-pos, pow-lt}
+use lib.Ieee.{Float, nan, inf, fin, Format, prec, emax, low, up, down, size, hid, top, round, neg, add, sub, le, eq, fits, toBits, ofBits}
+use lib.Ieee.Bits.{ofBits-toBits}
+use lib.Ieee.Nearest.{div-same}
+use lib.Ieee.Fits.{and-l, and-r, up-pos, down-pos}
+use lib.Ieee.Exact.{HasValue, round-exact}
+use lib.Ieee.Digits.{back}
+use lib.Ieee.Positive.{den, den-pos}
+use lib.Ieee.Scale.{finite}
+use Rattle.float_order.specs.Order.{credit, debit, zeroF, Rounded, minusZero}
+use Rattle.float_order.proofs.Order.{finite-number, le→at-most, at-most→le, le-left, le-right, bottom-le, le-top, le-refl, le-trans, neg-le, neg-number}
+use Rattle.float_order.proofs.Rounding.{no-debit, rounded-mono, add-rounded, add-mono, add-inf-right, add-number'}
+
+-- ---- a value that the format holds is not rounded
+low-enough : (k l : ℕ) → 2 ^ k ≤ 2 ^ l → k ≤ l
+low-enough k l h = le-of-suc-le-suc (lt-of-not-le (λ g. not-le-of-lt (pow-lt g) h))
+
+pub round-up : (f : Format) (s : Bool) (m k : ℕ) → m < 2 ^ prec f → m * 2 ^ k < 2 ^ suc (emax f) * 1 → HasValue (round f s (m * 2 ^ k) 1) s (m * 2 ^ k) 1
+round-up f s m k h g =
+    let l = low f in
+    let e : m * 2 ^ k * 2 ^ l ≡ m * 2 ^ (k + l) = mul-assoc m (2 ^ k) (2 ^ l) ∙ ap (λ (z : ℕ). m * z) (sym (pow-add 2 k l)) in
+    round-exact f s (m * 2 ^ k) 1 m (k + l) (pow-pos 0) h
+    (subst (λ (z : ℕ). z < 2 ^ (l + suc (emax f))) e (lt-of-lt-of-le (mul-lt-mul-of-pos-right g (pow-pos l)) (le-of-eq (ap (λ (z : ℕ). z * 2 ^ l) (mul-one (2 ^ suc (emax f))) ∙ mul-comm (2 ^ suc (emax f)) (2 ^ l) ∙ sym (pow-add 2 l (suc (emax f)))))))
+    (e ∙ sym (mul-one (m * 2 ^ (k + l))))
+
+round-down : (f : Format) (s : Bool) (m k : ℕ) → m < 2 ^ prec f → 2 ^ k ≤ 2 ^ low f → m * 1 < 2 ^ suc (emax f) * 2 ^ k → HasValue (round f s (m * 1) (2 ^ k)) s (m * 1) (2 ^ k)
+round-down f s m k h d g =
+    let l = low f in
+    let j = l - k in
+    let e : 2 ^ j * 2 ^ k ≡ 2 ^ l = sym (pow-add 2 j k) ∙ ap (λ (z : ℕ). 2 ^ z) (back l k (low-enough k l d)) in
+    round-exact f s (m * 1) (2 ^ k) m j (pow-pos k) h
+    (lt-of-lt-of-le (mul-lt-mul-of-pos-right (subst (λ (z : ℕ). z < 2 ^ suc (emax f) * 2 ^ k) (mul-one m) g) (pow-pos j))
+    (le-of-eq (mul-assoc (2 ^ suc (emax f)) (2 ^ k) (2 ^ j) ∙ ap (λ (z : ℕ). 2 ^ suc (emax f) * z) (mul-comm (2 ^ k) (2 ^ j) ∙ e) ∙ mul-comm (2 ^ suc (emax f)) (2 ^ l) ∙ sym (pow-add 2 l (suc (emax f))))))
+    (ap (λ (z : ℕ). z * 2 ^ l) (mul-one m) ∙ ap (λ (z : ℕ). m * z) (sym e) ∙ sym (mul-assoc m (2 ^ j) (2 ^ k)))
+
+round-held : (f : Format) (s : Bool) (m : ℕ) (e : ℤ) → m < 2 ^ prec f → down e ≤ 2 ^ low f → m * up e < 2 ^ suc (emax f) * down e → HasValue (round f s (m * up e) (down e)) s (m * up e) (down e)
+round-held f s m (pos k) h d g = round-up f s m k h g
+round-held f s m (negsuc k) h d g = round-down f s m (suc k) h d g
+
+round-none : (f : Format) (s : Bool) (u d : ℕ) → 0 < d → HasValue (round f s (0 * u) d) s (0 * u) d
+round-none f s u d D = round-exact f s (0 * u) d 0 0 D (pow-pos (prec f)) (pow-pos (low f + suc (emax f))) (ap (λ (z : ℕ). z * 2 ^ low f) (zero-mul u) ∙ none (2 ^ low f) d)
+  where
+    none : (l d : ℕ) → 0 * l ≡ 0 * 1 * d
+    none l d = omega arith
+
+pub fits-held : (f : Format) (s t : Bool) (m : ℕ) (e : ℤ) → T (fits f (fin t m e)) → HasValue (round f s (m * up e) (down e)) s (m * up e) (down e)
+unfolding fits
+fits-held f s t zero e h = round-none f s (up e) (down e) (down-pos e)
+fits-held f s t (suc m) e h =
+    let a : Bool = eqb (suc m % 2) 1 in
+    let b : Bool = ltb (suc m) (2 ^ prec f) in
+    let c : Bool = leb (down e) (2 ^ low f) in
+    let d : Bool = ltb (suc m * up e) (2 ^ suc (emax f) * down e) in
+    round-held f s (suc m) e
+    (ltb→lt (suc m) (2 ^ prec f) (and-r a b (and-l (a && b) c (and-l (a && b && c) d h))))
+    (leb→le (down e) (2 ^ low f) (and-r (a && b) c (and-l (a && b && c) d h)))
+    (ltb→lt (suc m * up e) (2 ^ suc (emax f) * down e) (and-r (a && b && c) d h))
+
+-- ---- a held value and what it rounds to
+held-le : (s : Bool) (m : ℕ) (e : ℤ) (y : Float) → HasValue y s (m * up e) (down e) → T (le (fin s m e) y)
+held-le s m e nan h = absurd h
+held-le s m e (inf t) h = absurd h
+held-le true m e (fin true n d) h = at-most→le (fin true m e) (fin true n d) tt tt (omega (arith, h .1))
+held-le true m e (fin false n d) h = absurd (true≢false (sym (h .0)))
+held-le false m e (fin true n d) h = absurd (true≢false (h .0))
+held-le false m e (fin false n d) h = at-most→le (fin false m e) (fin false n d) tt tt (omega (arith, h .1))
+
+held-ge : (s : Bool) (m : ℕ) (e : ℤ) (y : Float) → HasValue y s (m * up e) (down e) → T (le y (fin s m e))
+held-ge s m e nan h = absurd h
+held-ge s m e (inf t) h = absurd h
+held-ge true m e (fin true n d) h = at-most→le (fin true n d) (fin true m e) tt tt (omega (arith, h .1))
+held-ge true m e (fin false n d) h = absurd (true≢false (sym (h .0)))
+held-ge false m e (fin true n d) h = absurd (true≢false (h .0))
+held-ge false m e (fin false n d) h = at-most→le (fin false n d) (fin false m e) tt tt (omega (arith, h .1))
+
+own : (f : Format) (s : Bool) (m : ℕ) (e : ℤ) → Rounded f (round f s (m * up e) (down e)) (credit (fin s m e)) (debit (fin s m e)) (down e)
+own f true m e = record { sign = true; size = m * up e; apart = omega arith; is = refl }
+own f false m e = record { sign = false; size = m * up e; apart = omega arith; is = refl }
+
+module _ (f : Format) (x : Float) (held : T (fits f x)) (small : T (finite x)) (r : Float) (p n c : ℕ) (C : 0 < c) (is : Rounded f r p n c) where
+  -- (p - n) / c is at least x: so is what it rounds to
+  pub rounded-ge : credit x * c + n * den x ≤ p * den x + debit x * c → T (le x r)
+  rounded-ge h = go x held small h
+    where
+      go : (x : Float) → T (fits f x) → T (finite x) → credit x * c + n * den x ≤ p * den x + debit x * c → T (le x r)
+      go nan k l h = absurd l
+      go (inf s) k l h = absurd l
+      go (fin s m e) k l h = le-trans (fin s m e) (round f s (m * up e) (down e)) r (held-le s m e (round f s (m * up e) (down e)) (fits-held f s s m e k)) (rounded-mono f (round f s (m * up e) (down e)) r (credit (fin s m e)) (debit (fin s m e)) (down e) p n c (down-pos e) C (own f s m e) is h)
+
+  pub rounded-le : p * den x + debit x * c ≤ credit x * c + n * den x → T (le r x)
+  rounded-le h = go x held small h
+    where
+      go : (x : Float) → T (fits f x) → T (finite x) → p * den x + debit x * c ≤ credit x * c + n * den x → T (le r x)
+      go nan k l h = absurd l
+      go (inf s) k l h = absurd l
+      go (fin s m e) k l h = le-trans r (round f s (m * up e) (down e)) (fin s m e) (rounded-mono f r (round f s (m * up e) (down e)) p n c (credit (fin s m e)) (debit (fin s m e)) (down e) C (down-pos e) is (own f s m e) h) (held-ge s m e (round f s (m * up e) (down e)) (fits-held f s s m e k))
+
+-- ---- a sum with what is not negative is no less, and with what is not positive no more
+no-credit : (y : Float) → T (finite y) → T (le y zeroF) → credit y ≡ 0
+no-credit nan p h = absurd p
+no-credit (inf s) p h = absurd p
+no-credit (fin true m e) p h = refl
+no-credit (fin false m e) p h = let k = le→at-most (fin false m e) zeroF tt tt h in omega (arith, k)
+
+pub add-up : (f : Format) (x w : Float) → T (fits f x) → T (finite x) → T (le zeroF w) → T (le x (add f x w))
+add-up f x nan k l h = absurd (le-right zeroF nan h)
+add-up f x (inf true) k l h = absurd (unfold le in h)
+add-up f x (inf false) k l h = rw (add-inf-right f false x (add-number' f x (inf false) l tt)) (le-top x (finite-number x l))
+add-up f x (fin t n d) k l h =
+    let w = fin t n d in
+    rounded-ge f x k l (add f x w) (credit x * den w + credit w * den x) (debit x * den w + debit w * den x) (den x * den w) (mul-pos (den-pos x) (den-pos w)) (add-rounded f x w l tt)
+    (more (credit x) (debit x) (den x) (credit w) (debit w) (den w) (no-debit w tt h))
+  where
+    more : (a a' c b b' d : ℕ) → b' ≡ 0 → a * (c * d) + (a' * d + b' * c) * c ≤ (a * d + b * c) * c + a' * (c * d)
+    more a a' c b b' d e = rw e (simp (add-mul, mul-assoc, mul-comm) (omega arith))
+
+pub add-down : (f : Format) (x w : Float) → T (fits f x) → T (finite x) → T (le w zeroF) → T (le (add f x w) x)
+add-down f x nan k l h = absurd (le-left nan zeroF h)
+add-down f x (inf false) k l h = absurd (unfold le in h)
+add-down f x (inf true) k l h = rw (add-inf-right f true x (add-number' f x (inf true) l tt)) (bottom-le x (finite-number x l))
+add-down f x (fin t n d) k l h =
+    let w = fin t n d in
+    rounded-le f x k l (add f x w) (credit x * den w + credit w * den x) (debit x * den w + debit w * den x) (den x * den w) (mul-pos (den-pos x) (den-pos w)) (add-rounded f x w l tt)
+    (less (credit x) (debit x) (den x) (credit w) (debit w) (den w) (no-credit w tt h))
+  where
+    less : (a a' c b b' d : ℕ) → b ≡ 0 → (a * d + b * c) * c + a' * (c * d) ≤ a * (c * d) + (a' * d + b' * c) * c
+    less a a' c b b' d e = rw e (simp (add-mul, mul-assoc, mul-comm) (omega arith))
+
+pub neg-plus : (w : Float) → T (le zeroF w) → T (le (neg w) zeroF)
+neg-plus w h = le-trans (neg w) (neg zeroF) zeroF (neg-le zeroF w h) (unfold neg in (unfold le in tt))
+
+pub sub-down : (f : Format) (x w : Float) → T (fits f x) → T (finite x) → T (le zeroF w) → T (le (sub f x w) x)
+unfolding sub
+sub-down f x w k l h = add-down f x (neg w) k l (neg-plus w h)
+
+-- the two sides of a box around c: c - r ≤ c + r
+pub sides : (f : Format) (c r : Float) → T (finite c) → T (le zeroF r) → T (le (sub f c r) (add f c r))
+unfolding sub
+sides f c r l h =
+    add-mono f c c (neg r) r (le-refl c (finite-number c l)) (le-trans (neg r) zeroF r (neg-plus r h) h)
+    (add-number' f c (neg r) l (neg-number r (le-right zeroF r h))) (add-number' f c r l (le-right zeroF r h))
+
+-- ---- of two values that a format holds, and that are equal: they are one, unless one of them is -0
+abbrev bitsFrom : Format → Bool → ℕ → ℕ
+bitsFrom f s n = cond s (top f) 0 + (size n - prec f) * hid f + n / 2 ^ (size n - prec f)
+
+bits-are : (f : Format) (s : Bool) (m : ℕ) (e : ℤ) → toBits f (fin s m e) ≡ bitsFrom f s (m * up e * 2 ^ low f / down e)
+unfolding toBits
+bits-are f s m e = refl
+
+same-sign : (f : Format) (s : Bool) (m : ℕ) (e : ℤ) (n : ℕ) (d : ℤ) → T (fits f (fin s m e)) → T (fits f (fin s n d)) → m * up e * down d ≡ n * up d * down e → fin s m e ≡ fin s n d
+same-sign f s m e n d h k q =
+    let l = 2 ^ low f in
+    sym (ofBits-toBits f (fin s m e) h)
+    ∙ ap (ofBits f) (bits-are f s m e ∙ ap (bitsFrom f s) (div-same (m * up e * l) (down e) (n * up d * l) (down d) (down-pos e) (down-pos d) (mul-right-comm (m * up e) l (down d) ∙ ap (λ (z : ℕ). z * l) q ∙ mul-right-comm (n * up d) (down e) l)) ∙ sym (bits-are f s n d))
+    ∙ ofBits-toBits f (fin s n d) k
+
+no-minus : (m : ℕ) (e d : ℤ) → T (not (minusZero (fin true m e))) → m * up e * down d ≡ 0 → ⊥
+no-minus zero e d h p = h
+no-minus (suc m) e d h p = not-zero (suc m * up e * down d) (mul-pos (mul-pos (zero-lt-suc m) (up-pos e)) (down-pos d)) p
+  where
+    not-zero : (a : ℕ) → 0 < a → a ≡ 0 → ⊥
+    not-zero a h e = omega arith
+
+pub eq-only : (f : Format) (x y : Float) → T (fits f x) → T (fits f y) → T (not (minusZero x)) → T (not (minusZero y)) → T (eq x y) → x ≡ y
+unfolding eq
+eq-only f nan y h k p q t = absurd t
+eq-only f (inf s) nan h k p q t = absurd t
+eq-only f (inf true) (inf true) h k p q t = refl
+eq-only f (inf true) (inf false) h k p q t = absurd t
+eq-only f (inf false) (inf true) h k p q t = absurd t
+eq-only f (inf false) (inf false) h k p q t = refl
+eq-only f (inf s) (fin t n d) h k p q u = absurd u
+eq-only f (fin s m e) nan h k p q t = absurd t
+eq-only f (fin s m e) (inf t) h k p q u = absurd u
+eq-only f (fin true m e) (fin true n d) h k p q t = same-sign f true m e n d h k (eqb→eq (m * up e * down d) (n * up d * down e) (and-l (eqb (m * up e * down d) (n * up d * down e)) true t))
+eq-only f (fin false m e) (fin false n d) h k p q t = same-sign f false m e n d h k (eqb→eq (m * up e * down d) (n * up d * down e) (and-l (eqb (m * up e * down d) (n * up d * down e)) true t))
+eq-only f (fin true m e) (fin false n d) h k p q t = absurd (no-minus m e d p (eqb→eq (m * up e * down d) 0 (and-r (eqb (m * up e * down d) (n * up d * down e)) (eqb (m * up e * down d) 0) t)))
+eq-only f (fin false m e) (fin true n d) h k p q t =
+    absurd (no-minus n d e q (sym (eqb→eq (m * up e * down d) (n * up d * down e) (and-l (eqb (m * up e * down d) (n * up d * down e)) (eqb (m * up e * down d) 0) t)) ∙ eqb→eq (m * up e * down d) 0 (and-r (eqb (m * up e * down d) (n * up d * down e)) (eqb (m * up e * down d) 0) t)))

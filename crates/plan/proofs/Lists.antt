@@ -1,0 +1,113 @@
+-- What a loop over cutters or pieces needs, by induction on the list, and what lies past a table's last row, by its length. Assumes nothing.
+use Prim.Native.Nat.{ℕ, _+_, _*_, _≤_}
+use mathlib.Core.Path.{_≡_, refl}
+use mathlib.Core.List.{List, [], _∷_, _++_}
+use native.Mathlib.Numerals.{add-one}
+use native.Mathlib.Omega.{arith}
+use lib.ListN.{length, getD, List·getD-eq-default}
+use lib.Ieee.{Float, nan}
+use Rattle.vec.specs.declared.Vec3.{Vec3}
+use Rattle.sdf.specs.declared.Shape.{Shape}
+use Rattle.refusals.specs.Prims.{shapeOf}
+use Rattle.words.specs.Lists.{listFrom}
+use Rattle.words.proofs.Runs.{from-snoc}
+use Rattle.plan.specs.declared.Head.{Head}
+use Rattle.plan.specs.declared.DistHit.{DistHit}
+use Rattle.plan.specs.Model.{Piece, wordOf, floatOf, noShape, noHead, cutterAt, headAt, pieceAt, cuttersFrom, piecesFrom}
+use Rattle.plan.specs.Nearest.{cutBy, carve, nearer, nearest}
+
+-- one more at the end is one more step
+carve-snoc : (cs : List Shape) (c : Shape) (p : Vec3) (d : Float) → carve (cs ++ (c ∷ [])) p d ≡ cutBy c p (carve cs p d)
+unfolding carve
+carve-snoc [] c p d = refl
+carve-snoc (x ∷ cs) c p d = carve-snoc cs c p (cutBy x p d)
+
+pub nearest-snoc : (os : List Piece) (o : Piece) (p : Vec3) (best : DistHit) → nearest (os ++ (o ∷ [])) p best ≡ nearer o p (nearest os p best)
+unfolding nearest
+nearest-snoc [] o p best = refl
+nearest-snoc (x ∷ os) o p best = nearest-snoc os o p (nearer x p best)
+
+-- a head whose words start at i
+abbrev pub rowHead : List ℕ → List Float → ℕ → Head
+rowHead w f i =
+    record {
+      material = wordOf w i;
+      blend = floatOf f (i + 1);
+      cutters = wordOf w (i + 2);
+      kind = wordOf w (i + 3);
+      shape =
+          shapeOf (wordOf w (i + 3))
+          (record { x = floatOf f (i + 4); y = floatOf f (i + 5); z = floatOf f (i + 6) })
+          (record { x = floatOf f (i + 7); y = floatOf f (i + 8); z = floatOf f (i + 9) })
+          (floatOf f (i + 10))
+          (floatOf f (i + 11));
+      place = wordOf w (i + 12);
+    }
+
+module _ (w : List ℕ) (f : List Float) where
+  pub carve-none : (place : ℕ) (p : Vec3) (d : Float) → d ≡ carve (cuttersFrom w f place 0) p d
+  unfolding cuttersFrom listFrom carve
+  carve-none place p d = refl
+
+  pub carve-more : (place j : ℕ) (p : Vec3) (d : Float) → carve (cuttersFrom w f place (j + 1)) p d ≡ cutBy (cutterAt w f (place + j)) p (carve (cuttersFrom w f place j) p d)
+  unfolding cuttersFrom
+  carve-more place j p d = rw (add-one, from-snoc (cutterAt w f) place j, carve-snoc)
+
+  pub nearest-none : (r : ℕ) (p : Vec3) (best : DistHit) → best ≡ nearest (piecesFrom w f r 0) p best
+  unfolding piecesFrom listFrom nearest
+  nearest-none r p best = refl
+
+  pub nearest-more : (r j : ℕ) (p : Vec3) (best : DistHit) → nearest (piecesFrom w f r (j + 1)) p best ≡ nearer (pieceAt w f (r + j)) p (nearest (piecesFrom w f r j) p best)
+  unfolding piecesFrom
+  nearest-more r j p best = rw (add-one, from-snoc (pieceAt w f) r j, nearest-snoc)
+
+  -- a row's places counted from its first, as the code reads them
+  pub head-row : (r : ℕ) → headAt w f r ≡ rowHead w f (16 * r)
+  unfolding headAt
+  head-row r =
+      let at : (k : ℕ) → 16 * r + 3 + k ≡ 16 * r + (3 + k) = λ k. omega arith in
+      rw (at 1, at 2, at 3, at 4, at 5, at 6, at 7, at 8)
+
+-- past the last cutter, and past the last row
+module _ (w : List ℕ) (f : List Float) (lw : length w ≡ 22288) (lf : length f ≡ 22288) where
+  word-past : (i : ℕ) → 22288 ≤ i → getD w i 0 ≡ 0
+  word-past i h = List·getD-eq-default w 0 (omega arith)
+
+  float-past : (i : ℕ) → 22288 ≤ i → getD f i nan ≡ nan
+  float-past i h = List·getD-eq-default f nan (omega arith)
+
+  pub cutter-past : (c : ℕ) → 1024 ≤ c → cutterAt w f c ≡ noShape
+  unfolding cutterAt
+  cutter-past c h =
+      let i : ℕ = 5904 + 16 * c in
+      rw (
+        word-past i (omega arith),
+        float-past (i + 1) (omega arith),
+        float-past (i + 2) (omega arith),
+        float-past (i + 3) (omega arith),
+        float-past (i + 4) (omega arith),
+        float-past (i + 5) (omega arith),
+        float-past (i + 6) (omega arith),
+        float-past (i + 7) (omega arith),
+        float-past (i + 8) (omega arith),
+      )
+
+  pub head-past : (r : ℕ) → 1393 ≤ r → headAt w f r ≡ noHead
+  unfolding headAt
+  head-past r h =
+      let i : ℕ = 16 * r in
+      rw (
+        word-past i (omega arith),
+        word-past (i + 2) (omega arith),
+        word-past (i + 3) (omega arith),
+        word-past (i + 12) (omega arith),
+        float-past (i + 1) (omega arith),
+        float-past (i + 3 + 1) (omega arith),
+        float-past (i + 3 + 2) (omega arith),
+        float-past (i + 3 + 3) (omega arith),
+        float-past (i + 3 + 4) (omega arith),
+        float-past (i + 3 + 5) (omega arith),
+        float-past (i + 3 + 6) (omega arith),
+        float-past (i + 3 + 7) (omega arith),
+        float-past (i + 3 + 8) (omega arith),
+      )

@@ -1,0 +1,16 @@
+-- `plan_entry::light_words` meets its contract: word by word. Assumes nothing.
+use borrow.Author.Needs.{needs}
+use Rattle.plan_entry.proofs.light_words.Statement.{statement}
+use Rattle.plan_entry.proofs.light_words.Tie as tie
+
+returns : tie.Need-returns
+returns c = cc
+
+pub light-words-spec : {M : Type 1} → statement M
+light-words-spec =
+    tie.close
+    (tie.spec
+    (λ c κs. search needs) (λ c κs. search needs) (λ c κs. search needs) (λ c κs. search needs)
+    (λ c κs. search needs) (λ c κs. search needs) (λ c κs. search needs) (λ c κs. search needs)
+    (λ c κs. search needs) (λ c κs. search needs) (λ c κs. search needs) (λ c κs. search needs)
+    (λ c κs. search needs) (λ c κs. search needs) (λ c κs. search needs) returns)

@@ -1,0 +1,16 @@
+-- `plan_entry::room_number` meets its contract: call by call. Assumes nothing.
+use Rattle.plan_entry.specs.Entry.{roomNumber}
+use borrow.Author.Needs.{needs}
+use Rattle.plan_entry.proofs.room_number.Statement.{statement}
+use Rattle.plan_entry.proofs.room_number.Tie as tie
+
+returns : tie.Need-returns
+unfolding roomNumber
+returns c = cc
+
+pub room-number-spec : {M : Type 1} → statement M
+room-number-spec =
+    tie.close
+    (tie.spec
+    (λ c. search needs) (λ c. search needs) (λ c. search needs) (λ c. search needs) (λ c κs. search needs)
+    (λ c κs. search needs) (λ c κs. search needs) returns)

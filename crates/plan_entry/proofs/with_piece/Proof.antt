@@ -1,0 +1,21 @@
+-- `plan_entry::with_piece` meets its contract: call by call, and the count by the test of the list. Assumes nothing.
+use Rattle.plan_entry.specs.Entry.{withPiece}
+use borrow.Author.Needs.{needs}
+use Rattle.plan_entry.proofs.with_piece.Statement.{statement}
+use Rattle.plan_entry.proofs.with_piece.Tie as tie
+
+returns : tie.Need-returns
+unfolding withPiece
+returns c = rw (c .before .before .put-row .ensures, c .before .before .before .before .before .before .piece-words .ensures, c .before .before .before .before .row-of .ensures, c .one-more .ensures, c .before .before .before .before .before .before .before .put-cutters .ensures, c .before .before .before .before .before .before .before .before .word-of .ensures, c .before .before .before .before .before .before .before .before .before .before .count-of .ensures, c .before .if1 .taken)
+
+returns-2 : tie.Need-returns-2
+unfolding withPiece
+returns-2 c = rw (c .before .before .put-row .ensures, c .before .before .before .before .before .before .piece-words .ensures, c .before .before .before .before .row-of .ensures, c .one-more2 .ensures, c .before .before .before .before .before .before .before .put-cutters .ensures, c .before .before .before .before .before .before .before .before .word-of .ensures, c .before .before .before .before .before .before .before .before .before .before .count-of .ensures, c .before .if1 .left)
+
+pub with-piece-spec : {M : Type 1} → statement M
+with-piece-spec =
+    tie.close
+    (tie.spec
+    (λ c κs. search needs) (λ c κs. search needs) (λ c κs. search needs) (λ c κs. search needs)
+    (λ c κs. search needs) (λ c. search needs) (λ c. search needs) (λ c. search needs) (λ c κs. search needs)
+    (λ c κs. search needs) (λ c. search needs) returns (λ c κs. search needs) (λ c. search needs) returns-2)

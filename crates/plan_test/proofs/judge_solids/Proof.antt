@@ -1,0 +1,23 @@
+-- `plan_test::judge_solids` meets its contract. Assumes nothing.
+use mathlib.Core.Path.{sym}
+use Rattle.plan_test.specs.Sound.{solidsOf}
+use borrow.Author.Needs.{needs}
+use Rattle.plan_test.proofs.judge_solids.Statement.{statement}
+use Rattle.plan_test.proofs.judge_solids.Tie as tie
+
+returns : tie.Need-returns
+unfolding solidsOf
+returns c = rw (sym (c .before .before .before .before .before .before .before .before .before .before .before .before .counts-ok .ensures), c .before .before .before .before .before .before .before .before .before .before .before .if1 .taken) (cc)
+
+returns-2 : tie.Need-returns-2
+unfolding solidsOf
+returns-2 c = rw (sym (c .before .counts-ok .ensures), c .if1 .left)
+
+pub judge-solids-spec : {M : Type 1} → statement M
+judge-solids-spec =
+    tie.close
+    (tie.spec
+    (λ c κs. search needs) (λ c. search needs) (λ c κs. search needs) (λ c. search needs)
+    (λ c κs. search needs) (λ c. search needs) (λ c. search needs) (λ c. search needs) (λ c κs. search needs)
+    (λ c κs. search needs) (λ c κs. search needs) (λ c κs. search needs) (λ c κs. search needs) returns
+    returns-2)

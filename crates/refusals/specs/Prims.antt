@@ -1,0 +1,51 @@
+-- "Kinds count 0 to 6, and words stand, in the source's order", and what a primitive's numbers must be. Definitions only.
+use Prim.Native.Nat.{ℕ}
+use mathlib.Core.Bool.{Bool, true, false, not, cond, _&&_}
+use lib.Dec.{leb, eqb}
+use lib.Ieee.{Float, eq}
+use Rattle.scalar.specs.F32.{f0}
+use Rattle.scalar.specs.Ranges.{magnitude}
+use Rattle.vec.specs.declared.Vec3.{Vec3}
+use Rattle.vec.specs.Vec.{vsub, vdot}
+use Rattle.sdf.specs.declared.Shape.{Shape}
+use Rattle.sdf.specs.declared.Shape.the-variants.{Sphere, RoundBox, Plane, Capsule, Torus, Cylinder, Cone}
+use Rattle.refusals.specs.Refusals.{badNumber, noExtent, unless, lower}
+use Rattle.refusals.specs.Ranges.{far, steep, within, withinUpTo, coordinates, size}
+
+-- a kind and eight floats: a the first three, b the next three, then u and v. sphere c, r; round box c, b, r; plane n, h; capsule a, b, r;
+-- torus c, major, minor; cylinder a, b, r; cone a, b, ra, rb
+unfoldable pub shapeOf : ℕ → Vec3 → Vec3 → Float → Float → Shape
+shapeOf k a b u v =
+    cond (eqb k 0) (Sphere a (b .x))
+    (cond (eqb k 1) (RoundBox a b u)
+    (cond (eqb k 2) (Plane a (b .x))
+    (cond (eqb k 3) (Capsule a b u)
+    (cond (eqb k 4) (Torus a (b .x) (b .y))
+    (cond (eqb k 5) (Cylinder a b u)
+    (Cone a b u v))))))
+
+unfoldable pub shapeOk : Shape → Bool
+shapeOk (Sphere c r) = coordinates c && size r
+shapeOk (RoundBox c b r) = coordinates c && (withinUpTo b far && size r)
+shapeOk (Plane n h) = within n steep && magnitude h far
+shapeOk (Capsule a b r) = coordinates a && (coordinates b && size r)
+shapeOk (Torus c major minor) = coordinates c && (size major && size minor)
+shapeOk (Cylinder a b r) = coordinates a && (coordinates b && size r)
+shapeOk (Cone a b ra rb) = coordinates a && (coordinates b && (size ra && size rb))
+
+unfoldable pub noLength : Vec3 → Bool
+noLength v = eq (vdot v v) f0
+
+-- a capsule whose computed `ba.dot(ba)` is 0
+unfoldable pub flat : Shape → Bool
+flat (Sphere c r) = false
+flat (RoundBox c b r) = false
+flat (Plane n h) = false
+flat (Capsule a b r) = noLength (vsub b a)
+flat (Torus c major minor) = false
+flat (Cylinder a b r) = false
+flat (Cone a b ra rb) = false
+
+-- what a primitive gets wherever it is given
+unfoldable pub primNumber : ℕ → Shape → ℕ
+primNumber kind s = lower (unless badNumber (leb kind 6 && shapeOk s)) (unless noExtent (not (flat s)))

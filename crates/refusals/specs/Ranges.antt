@@ -1,0 +1,40 @@
+-- "Every given number is finite. Magnitudes: coordinates, radii, blend and `h` to 10,000 (radii, half sizes and blend not negative); a plane's normal, ray
+-- directions, shading normals and views to 1.5 a component; ray origins to 20,000; query points to 200,000. 10,000 is taken; the next float up is refused."
+-- Definitions only; that the limits are these numbers is a theorem of proofs/Limits.antt.
+use mathlib.Core.Bool.{Bool, _&&_}
+use lib.Ieee.{Float, binary32, ofBits}
+use Rattle.scalar.specs.F32.{f0}
+use Rattle.scalar.specs.Ranges.{between, magnitude}
+use Rattle.vec.specs.declared.Vec3.{Vec3}
+
+-- 10,000
+abbrev pub far : Float
+far = ofBits binary32 0x461c_4000
+
+-- 1.5
+abbrev pub steep : Float
+steep = ofBits binary32 0x3fc0_0000
+
+-- 200,000
+abbrev pub farthest : Float
+farthest = ofBits binary32 0x4843_5000
+
+-- f32::MAX
+abbrev pub greatest : Float
+greatest = ofBits binary32 0x7f7f_ffff
+
+unfoldable pub upTo : Float → Float → Bool
+upTo x most = between f0 x most
+
+unfoldable pub within : Vec3 → Float → Bool
+within v most = magnitude (v .x) most && (magnitude (v .y) most && magnitude (v .z) most)
+
+unfoldable pub withinUpTo : Vec3 → Float → Bool
+withinUpTo v most = upTo (v .x) most && (upTo (v .y) most && upTo (v .z) most)
+
+unfoldable pub coordinates : Vec3 → Bool
+coordinates v = within v far
+
+-- a radius or a blend
+unfoldable pub size : Float → Bool
+size x = upTo x far

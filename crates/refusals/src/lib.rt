@@ -1,0 +1,140 @@
+// What is refused: ranges, kinds and extents, and that the lowest number wins.
+ghost use mathlib.Core.Path.{_≡_};
+ghost use mathlib.Core.Bool.{_&&_};
+ghost use Rattle.refusals.specs.Refusals.{lower, unless};
+ghost use Rattle.refusals.specs.Ranges.{upTo, within, withinUpTo, coordinates, size};
+ghost use Rattle.refusals.specs.Prims.{shapeOf, shapeOk, noLength, flat, primNumber};
+use sdf::Shape;
+use vec::Vec3;
+
+// Of two numbers sent back the lower, where 0 is none.
+pub fn lower(a: u32, b: u32) -> u32
+    ensures { λ r. ⌜ r ≡ lower a b ⌝ }
+{
+    if a == 0 {
+        return b;
+    }
+    if b == 0 {
+        return a;
+    }
+    if a < b { a } else { b }
+}
+
+// The number n, unless `ok` holds.
+pub fn unless(n: u32, ok: bool) -> u32
+    ensures { λ r. ⌜ r ≡ unless n ok ⌝ }
+{
+    if ok { 0 } else { n }
+}
+
+// Both are worked out, so that a row of tests has no branches.
+pub fn both(a: bool, b: bool) -> bool
+    ensures { λ r. ⌜ r ≡ a && b ⌝ }
+{
+    a && b
+}
+
+// From 0 to `most`.
+pub fn up_to(x: f32, most: f32) -> bool
+    ensures { λ r. ⌜ r ≡ upTo x most ⌝ }
+{
+    scalar::between(0.0, x, most)
+}
+
+// Each component is at most `most` in magnitude.
+pub fn within(v: Vec3, most: f32) -> bool
+    ensures { λ r. ⌜ r ≡ within v most ⌝ }
+{
+    both(
+        scalar::magnitude(v.x, most),
+        both(scalar::magnitude(v.y, most), scalar::magnitude(v.z, most)),
+    )
+}
+
+// Each component is from 0 to `most`.
+pub fn within_up_to(v: Vec3, most: f32) -> bool
+    ensures { λ r. ⌜ r ≡ withinUpTo v most ⌝ }
+{
+    both(up_to(v.x, most), both(up_to(v.y, most), up_to(v.z, most)))
+}
+
+// The shape of a kind and eight floats: a the first three, b the next three, then u and v.
+pub fn shape_of(kind: u32, a: Vec3, b: Vec3, u: f32, v: f32) -> Shape
+    ensures { λ r. ⌜ r ≡ shapeOf kind a b u v ⌝ }
+{
+    match kind {
+        0 => Shape::Sphere { c: a, r: b.x },
+        1 => Shape::RoundBox { c: a, b, r: u },
+        2 => Shape::Plane { n: a, h: b.x },
+        3 => Shape::Capsule { a, b, r: u },
+        4 => Shape::Torus {
+            c: a,
+            major: b.x,
+            minor: b.y,
+        },
+        5 => Shape::Cylinder { a, b, r: u },
+        _ => Shape::Cone { a, b, ra: u, rb: v },
+    }
+}
+
+fn coordinates(v: Vec3) -> bool
+    ensures { λ r. ⌜ r ≡ coordinates v ⌝ }
+{
+    within(v, 10000.0)
+}
+
+fn size(x: f32) -> bool
+    ensures { λ r. ⌜ r ≡ size x ⌝ }
+{
+    up_to(x, 10000.0)
+}
+
+// Every number of a shape is in its range.
+pub fn shape_ok(s: Shape) -> bool
+    ensures { λ r. ⌜ r ≡ shapeOk s ⌝ }
+{
+    match s {
+        Shape::Sphere { c, r } => both(coordinates(c), size(r)),
+        Shape::RoundBox { c, b, r } => both(
+            coordinates(c),
+            both(within_up_to(b, 10000.0), size(r)),
+        ),
+        Shape::Plane { n, h } => both(within(n, 1.5), scalar::magnitude(h, 10000.0)),
+        Shape::Capsule { a, b, r } => both(coordinates(a), both(coordinates(b), size(r))),
+        Shape::Torus { c, major, minor } => { both(coordinates(c), both(size(major), size(minor))) }
+        Shape::Cylinder { a, b, r } => both(coordinates(a), both(coordinates(b), size(r))),
+        Shape::Cone { a, b, ra, rb } => both(
+            coordinates(a),
+            both(coordinates(b), both(size(ra), size(rb))),
+        ),
+    }
+}
+
+// The computed square of a length is 0.
+pub fn no_length(v: Vec3) -> bool
+    ensures { λ r. ⌜ r ≡ noLength v ⌝ }
+{
+    v.dot(v) == 0.0
+}
+
+// A capsule of no extent.
+pub fn flat(s: Shape) -> bool
+    ensures { λ r. ⌜ r ≡ flat s ⌝ }
+{
+    match s {
+        Shape::Sphere { c, r } => false,
+        Shape::RoundBox { c, b, r } => false,
+        Shape::Plane { n, h } => false,
+        Shape::Capsule { a, b, r } => no_length(b.sub(a)),
+        Shape::Torus { c, major, minor } => false,
+        Shape::Cylinder { a, b, r } => false,
+        Shape::Cone { a, b, ra, rb } => false,
+    }
+}
+
+// The number that a primitive gets, of a kind and the shape that its words make.
+pub fn prim_number(kind: u32, s: Shape) -> u32
+    ensures { λ r. ⌜ r ≡ primNumber kind s ⌝ }
+{
+    lower(unless(1, both(kind <= 6, shape_ok(s))), unless(4, !flat(s)))
+}
