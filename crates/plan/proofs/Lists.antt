@@ -7,25 +7,28 @@ use native.Mathlib.Omega.{arith}
 use lib.ListN.{length, getD, List·getD-eq-default}
 use lib.Ieee.{Float, nan}
 use Rattle.vec.specs.declared.Vec3.{Vec3}
-use Rattle.sdf.specs.declared.Shape.{Shape}
 use Rattle.refusals.specs.Prims.{shapeOf}
 use Rattle.words.specs.Lists.{listFrom}
 use Rattle.words.proofs.Runs.{from-snoc}
+use Rattle.plan.specs.declared.Cutter.{Cutter}
 use Rattle.plan.specs.declared.Head.{Head}
 use Rattle.plan.specs.declared.DistHit.{DistHit}
-use Rattle.plan.specs.Model.{Piece, wordOf, floatOf, noShape, noHead, cutterAt, headAt, pieceAt, cuttersFrom, piecesFrom}
-use Rattle.plan.specs.Nearest.{cutBy, carve, nearer, nearest}
+use Rattle.plan.specs.Records.{wordOf, floatOf, noShape, noHead, cutterAt, headAt}
+use Rattle.plan.specs.Plan.{Cuts, Piece, cutsBy, pieceAt, piecesFrom}
+use Rattle.plan.specs.Nearest.{cutBy, carve, hitOf, closer, nearest}
 
 -- one more at the end is one more step
-carve-snoc : (cs : List Shape) (c : Shape) (p : Vec3) (d : Float) → carve (cs ++ (c ∷ [])) p d ≡ cutBy c p (carve cs p d)
+carve-snoc : (cs : Cuts) (c : Cutter) (p : Vec3) (d : Float) → carve (cs ++ (c ∷ [])) p d ≡ cutBy c p (carve cs p d)
 unfolding carve
 carve-snoc [] c p d = refl
 carve-snoc (x ∷ cs) c p d = carve-snoc cs c p (cutBy x p d)
 
-pub nearest-snoc : (os : List Piece) (o : Piece) (p : Vec3) (best : DistHit) → nearest (os ++ (o ∷ [])) p best ≡ nearer o p (nearest os p best)
+pub nearest-snoc
+    : (os : List Piece) (o : Piece) (p : Vec3) (best : DistHit)
+    → nearest (os ++ (o ∷ [])) p best ≡ closer (nearest os p best) (hitOf o p)
 unfolding nearest
 nearest-snoc [] o p best = refl
-nearest-snoc (x ∷ os) o p best = nearest-snoc os o p (nearer x p best)
+nearest-snoc (x ∷ os) o p best = nearest-snoc os o p (closer best (hitOf x p))
 
 -- a head whose words start at i
 abbrev pub rowHead : List ℕ → List Float → ℕ → Head
@@ -45,19 +48,23 @@ rowHead w f i =
     }
 
 module _ (w : List ℕ) (f : List Float) where
-  pub carve-none : (place : ℕ) (p : Vec3) (d : Float) → d ≡ carve (cuttersFrom w f place 0) p d
-  unfolding cuttersFrom listFrom carve
-  carve-none place p d = refl
+  pub carve-none : (r : ℕ) (p : Vec3) (d : Float) → d ≡ carve (cutsBy w f r 0) p d
+  unfolding cutsBy listFrom carve
+  carve-none r p d = refl
 
-  pub carve-more : (place j : ℕ) (p : Vec3) (d : Float) → carve (cuttersFrom w f place (j + 1)) p d ≡ cutBy (cutterAt w f (place + j)) p (carve (cuttersFrom w f place j) p d)
-  unfolding cuttersFrom
-  carve-more place j p d = rw (add-one, from-snoc (cutterAt w f) place j, carve-snoc)
+  pub carve-more
+      : (r j : ℕ) (p : Vec3) (d : Float)
+      → carve (cutsBy w f r (j + 1)) p d ≡ cutBy (cutterAt w f (r + j)) p (carve (cutsBy w f r j) p d)
+  unfolding cutsBy
+  carve-more r j p d = rw (add-one, from-snoc (cutterAt w f) r j, carve-snoc)
 
   pub nearest-none : (r : ℕ) (p : Vec3) (best : DistHit) → best ≡ nearest (piecesFrom w f r 0) p best
   unfolding piecesFrom listFrom nearest
   nearest-none r p best = refl
 
-  pub nearest-more : (r j : ℕ) (p : Vec3) (best : DistHit) → nearest (piecesFrom w f r (j + 1)) p best ≡ nearer (pieceAt w f (r + j)) p (nearest (piecesFrom w f r j) p best)
+  pub nearest-more
+      : (r j : ℕ) (p : Vec3) (best : DistHit)
+      → nearest (piecesFrom w f r (j + 1)) p best ≡ closer (nearest (piecesFrom w f r j) p best) (hitOf (pieceAt w f (r + j)) p)
   unfolding piecesFrom
   nearest-more r j p best = rw (add-one, from-snoc (pieceAt w f) r j, nearest-snoc)
 
@@ -68,18 +75,18 @@ module _ (w : List ℕ) (f : List Float) where
       let at : (k : ℕ) → 16 * r + 3 + k ≡ 16 * r + (3 + k) = λ k. omega arith in
       rw (at 1, at 2, at 3, at 4, at 5, at 6, at 7, at 8)
 
--- past the last cutter, and past the last row
-module _ (w : List ℕ) (f : List Float) (lw : length w ≡ 22288) (lf : length f ≡ 22288) where
-  word-past : (i : ℕ) → 22288 ≤ i → getD w i 0 ≡ 0
+-- past the last row
+module _ (w : List ℕ) (f : List Float) (lw : length w ≡ 27296) (lf : length f ≡ 27296) where
+  word-past : (i : ℕ) → 27296 ≤ i → getD w i 0 ≡ 0
   word-past i h = List·getD-eq-default w 0 (omega arith)
 
-  float-past : (i : ℕ) → 22288 ≤ i → getD f i nan ≡ nan
+  float-past : (i : ℕ) → 27296 ≤ i → getD f i nan ≡ nan
   float-past i h = List·getD-eq-default f nan (omega arith)
 
-  pub cutter-past : (c : ℕ) → 1024 ≤ c → cutterAt w f c ≡ noShape
+  pub cutter-past : (r : ℕ) → 1706 ≤ r → cutterAt w f r ≡ record { kind = 0; shape = noShape }
   unfolding cutterAt
-  cutter-past c h =
-      let i : ℕ = 5904 + 16 * c in
+  cutter-past r h =
+      let i : ℕ = 16 * r in
       rw (
         word-past i (omega arith),
         float-past (i + 1) (omega arith),
@@ -92,7 +99,7 @@ module _ (w : List ℕ) (f : List Float) (lw : length w ≡ 22288) (lf : length 
         float-past (i + 8) (omega arith),
       )
 
-  pub head-past : (r : ℕ) → 1393 ≤ r → headAt w f r ≡ noHead
+  pub head-past : (r : ℕ) → 1706 ≤ r → headAt w f r ≡ noHead
   unfolding headAt
   head-past r h =
       let i : ℕ = 16 * r in

@@ -1,2 +1,4 @@
-pub mod Model
+pub mod Sections
+pub mod Records
+pub mod Plan
 pub mod Nearest

@@ -1,10 +1,66 @@
-// The plan in rows of sixteen words, each held as a whole number and as a float at the same place; pieces, their distances, and the plain list.
+// The plan: rows of sixteen words, each held as a whole number and as a float at the same place; its records, its pieces' distances, and the plain list.
 ghost use mathlib.Core.Path.{_≡_};
-ghost use Prim.Native.Nat.{_+_};
-ghost use Rattle.plan.specs.Model.{noVec, noHead, headAt, cutterKind, cutterAt, cuttersFrom, pieceAt, piecesFrom};
-ghost use Rattle.plan.specs.Nearest.{cutBy, carve, pieceDist, closer, nearer, nearest, listHit, distMatList};
+ghost use Prim.Native.Nat.{_+_, _*_};
+ghost use Rattle.plan.specs.Records.{wordOf, floatOf, vecOf, noVec, noShape, noHead, materialAt, lightAt, lightIn, cutterAt, headAt};
+ghost use Rattle.plan.specs.Plan.{cutsBy, pieceAt, piecesFrom, planOf};
+ghost use Rattle.plan.specs.Nearest.{cutBy, carve, hitOf, closer, nearest, nothing, listHit};
 use sdf::Shape;
 use vec::Vec3;
+
+// What a call works on, in one table: the plan, its arguments, the nodes and the order of a tree. It is held twice, as words and as floats.
+pub type Words = [u32; 27296];
+pub type Floats = [f32; 27296];
+
+pub const ROWS: usize = 1706;
+pub const TABLE: usize = 27296;
+
+// The first word of the arguments, of the nodes and of the order; the plan is at 0.
+pub const ARGS: usize = 22288;
+pub const NODES: usize = 22432;
+pub const ORDER: usize = 27031;
+
+// The words that count materials, planes, lights and objects.
+pub const COUNT_MATERIALS: usize = 0;
+pub const COUNT_PLANES: usize = 1;
+pub const COUNT_LIGHTS: usize = 2;
+pub const COUNT_OBJECTS: usize = 3;
+
+// The first row of each section, and of the arguments.
+pub const MATERIAL_ROW: u32 = 1;
+pub const PLANE_ROW: u32 = 65;
+pub const LIGHT_ROW: u32 = 81;
+pub const OBJECT_ROW: u32 = 113;
+pub const CUTTER_ROW: u32 = 369;
+pub const ARGS_ROW: u32 = 1393;
+
+// How many each section may have; cutters in all, and to one piece.
+pub const MATERIALS: u32 = 64;
+pub const PLANES: u32 = 16;
+pub const LIGHTS: u32 = 16;
+pub const OBJECTS: u32 = 256;
+pub const CUTTERS: u32 = 1024;
+pub const CUTS: u32 = 8;
+
+pub struct Material {
+    pub albedo: Vec3,
+    pub roughness: f32,
+    pub metallic: f32,
+}
+
+// Corners counter-clockwise, seen from the emitting side.
+pub struct QuadLight {
+    pub v0: Vec3,
+    pub v1: Vec3,
+    pub v2: Vec3,
+    pub v3: Vec3,
+    pub emit: Vec3,
+}
+
+// A cutter: its kind word, and the shape that its words make.
+pub struct Cutter {
+    pub kind: u32,
+    pub shape: Shape,
+}
 
 // A piece but for its cutters: how many, and the place of the first.
 pub struct Head {
@@ -21,14 +77,87 @@ pub struct DistHit {
     pub mat: u32,
 }
 
-// The cutter at place c; past the last place what no words make.
-pub fn cutter(ws: &[u32; 22288], fs: &[f32; 22288], c: usize) -> Shape
-    ensures { λ r. ⌜ r ≡ cutterAt (now (ws .entry)) (now (fs .entry)) c ⌝ }
+// Word i, and 0 past the last.
+pub fn word_in(ws: &Words, i: usize) -> u32
+    ensures { λ r. ⌜ r ≡ wordOf (now (ws .entry)) i ⌝ }
 {
-    if c < 1024 {
-        let i = 5904 + 16 * c;
-        return refusals::shape_of(
-            ws[i],
+    if i < TABLE {
+        return ws[i];
+    }
+    // Only as a slice does a table tell the proof its length.
+    let _words: &[u32] = ws;
+    0
+}
+
+// Float i, and no number past the last.
+pub fn float_in(fs: &Floats, i: usize) -> f32
+    ensures { λ r. ⌜ r ≡ floatOf (now (fs .entry)) i ⌝ }
+{
+    if i < TABLE {
+        return fs[i];
+    }
+    let _floats: &[f32] = fs;
+    0.0 / 0.0
+}
+
+// Three floats from place k of row r on.
+pub fn vec_in(fs: &Floats, r: u32, k: u32) -> Vec3
+    ensures { λ v. ⌜ v ≡ vecOf (now (fs .entry)) (16 * r + k) ⌝ }
+{
+    let i = 16 * (r as usize) + k as usize;
+    Vec3 {
+        x: float_in(fs, i),
+        y: float_in(fs, i + 1),
+        z: float_in(fs, i + 2),
+    }
+}
+
+// The material in row r.
+pub fn material_at(fs: &Floats, r: u32) -> Material
+    ensures { λ m. ⌜ m ≡ materialAt (now (fs .entry)) r ⌝ }
+{
+    let i = 16 * (r as usize);
+    Material {
+        albedo: vec_in(fs, r, 0),
+        roughness: float_in(fs, i + 3),
+        metallic: float_in(fs, i + 4),
+    }
+}
+
+// The light whose first row is r.
+pub fn light_at(fs: &Floats, r: u32) -> QuadLight
+    ensures { λ l. ⌜ l ≡ lightAt (now (fs .entry)) r ⌝ }
+{
+    QuadLight {
+        v0: vec_in(fs, r, 0),
+        v1: vec_in(fs, r, 3),
+        v2: vec_in(fs, r, 6),
+        v3: vec_in(fs, r, 9),
+        emit: vec_in(fs, r, 12),
+    }
+}
+
+fn no_vec() -> Vec3
+    ensures { λ r. ⌜ r ≡ noVec ⌝ }
+{
+    Vec3::splat(0.0 / 0.0)
+}
+
+fn no_shape() -> Shape
+    ensures { λ s. ⌜ s ≡ noShape ⌝ }
+{
+    refusals::shape_of(0, no_vec(), no_vec(), 0.0 / 0.0, 0.0 / 0.0)
+}
+
+// The cutter in row r; past the last row what no words make.
+pub fn cutter_at(ws: &Words, fs: &Floats, r: usize) -> Cutter
+    ensures { λ c. ⌜ c ≡ cutterAt (now (ws .entry)) (now (fs .entry)) r ⌝ }
+{
+    if r < ROWS {
+        let i = 16 * r;
+        let kind = ws[i];
+        let shape = refusals::shape_of(
+            kind,
             Vec3 {
                 x: fs[i + 1],
                 y: fs[i + 2],
@@ -42,35 +171,22 @@ pub fn cutter(ws: &[u32; 22288], fs: &[f32; 22288], c: usize) -> Shape
             fs[i + 7],
             fs[i + 8],
         );
+        return Cutter { kind, shape };
     }
     // Only as a slice does a table tell the proof its length, which every place here lies past.
     let _words: &[u32] = ws;
     let _floats: &[f32] = fs;
-    refusals::shape_of(0, no_vec(), no_vec(), 0.0 / 0.0, 0.0 / 0.0)
-}
-
-// The kind word of the cutter at place c.
-pub fn cutter_kind(ws: &[u32; 22288], c: usize) -> u32
-    ensures { λ r. ⌜ r ≡ cutterKind (now (ws .entry)) c ⌝ }
-{
-    if c < 1024 {
-        return ws[5904 + 16 * c];
+    Cutter {
+        kind: 0,
+        shape: no_shape(),
     }
-    let _words: &[u32] = ws;
-    0
-}
-
-fn no_vec() -> Vec3
-    ensures { λ r. ⌜ r ≡ noVec ⌝ }
-{
-    Vec3::splat(0.0 / 0.0)
 }
 
 // The piece in row r; past the last row what no words make.
-pub fn head_at(ws: &[u32; 22288], fs: &[f32; 22288], r: usize) -> Head
+pub fn head_at(ws: &Words, fs: &Floats, r: usize) -> Head
     ensures { λ h. ⌜ h ≡ headAt (now (ws .entry)) (now (fs .entry)) r ⌝ }
 {
-    if r < 1393 {
+    if r < ROWS {
         let i = 16 * r;
         let kind = ws[i + 3];
         let shape = refusals::shape_of(
@@ -111,80 +227,78 @@ fn no_head() -> Head
         blend: 0.0 / 0.0,
         cutters: 0,
         kind: 0,
-        shape: refusals::shape_of(0, no_vec(), no_vec(), 0.0 / 0.0, 0.0 / 0.0),
+        shape: no_shape(),
         place: 0,
     }
 }
 
-// The distance d with one shape taken away.
-fn cut(d: f32, c: Shape, p: Vec3) -> f32
+// The distance d with one cutter taken away.
+fn cut(d: f32, c: Cutter, p: Vec3) -> f32
     ensures { λ r. ⌜ r ≡ cutBy c p d ⌝ }
 {
-    scalar::max(d, -c.dist(p))
+    let shape = c.shape;
+    scalar::max(d, -shape.dist(p))
 }
 
 // The distance d with n cutters from a place on taken away.
-pub fn carve(ws: &[u32; 22288], fs: &[f32; 22288], place: u32, n: u32, p: Vec3, d: f32) -> f32
-    ensures { λ r. ⌜ r ≡ carve (cuttersFrom (now (ws .entry)) (now (fs .entry)) place n) p d ⌝ }
+fn carve(ws: &Words, fs: &Floats, place: u32, n: u32, p: Vec3, d: f32) -> f32
+    ensures { λ r. ⌜ r ≡ carve (cutsBy (now (ws .entry)) (now (fs .entry)) (369 + place) n) p d ⌝ }
 {
     let mut left = d;
     let mut j: u32 = 0;
     while j < n {
-        left = cut(left, cutter(ws, fs, place as usize + j as usize), p);
+        let r = CUTTER_ROW as usize + place as usize + j as usize;
+        left = cut(left, cutter_at(ws, fs, r), p);
         j += 1;
     }
     left
 }
 
-pub fn closer(best: DistHit, d: f32, mat: u32) -> DistHit
-    ensures { λ r. ⌜ r ≡ closer best d mat ⌝ }
-{
-    if d < best.d { DistHit { d, mat } } else { best }
-}
-
-// The better of a hit and the piece in row r.
-pub fn nearer(ws: &[u32; 22288], fs: &[f32; 22288], r: usize, p: Vec3, best: DistHit) -> DistHit
-    ensures { λ h. ⌜ h ≡ nearer (pieceAt (now (ws .entry)) (now (fs .entry)) r) p best ⌝ }
+// The hit of the piece in row r.
+pub fn hit_of(ws: &Words, fs: &Floats, r: usize, p: Vec3) -> DistHit
+    ensures { λ h. ⌜ h ≡ hitOf (pieceAt (now (ws .entry)) (now (fs .entry)) r) p ⌝ }
 {
     let h = head_at(ws, fs, r);
     let shape = h.shape;
-    let d = carve(ws, fs, h.place, h.cutters, p, shape.dist(p));
-    closer(best, d, h.material)
+    DistHit {
+        d: carve(ws, fs, h.place, h.cutters, p, shape.dist(p)),
+        mat: h.material,
+    }
+}
+
+pub fn closer(best: DistHit, hit: DistHit) -> DistHit
+    ensures { λ r. ⌜ r ≡ closer best hit ⌝ }
+{
+    if hit.d < best.d { hit } else { best }
 }
 
 // The best of a hit and n pieces from row r on.
-pub fn nearest(
-    ws: &[u32; 22288],
-    fs: &[f32; 22288],
-    r: u32,
-    n: u32,
-    p: Vec3,
-    best: DistHit,
-) -> DistHit
+pub fn nearest(ws: &Words, fs: &Floats, r: u32, n: u32, p: Vec3, best: DistHit) -> DistHit
     ensures { λ h. ⌜ h ≡ nearest (piecesFrom (now (ws .entry)) (now (fs .entry)) r n) p best ⌝ }
 {
     let mut hit = best;
     let mut j: u32 = 0;
     while j < n {
-        hit = nearer(ws, fs, r as usize + j as usize, p, hit);
+        hit = closer(hit, hit_of(ws, fs, r as usize + j as usize, p));
         j += 1;
     }
     hit
 }
 
-pub fn query_linear(ws: &[u32; 22288], fs: &[f32; 22288], p: Vec3, best: DistHit) -> DistHit
-    ensures { λ h. ⌜ h ≡ listHit (now (ws .entry)) (now (fs .entry)) p best ⌝ }
+// The objects by the plain list, from a bound.
+pub fn query_linear(ws: &Words, fs: &Floats, p: Vec3, best: DistHit) -> DistHit
+    ensures { λ h. ⌜ h ≡ listHit (planOf (now (ws .entry)) (now (fs .entry))) p best ⌝ }
 {
-    nearest(ws, fs, 113, ws[3], p, best)
+    nearest(ws, fs, OBJECT_ROW, ws[COUNT_OBJECTS], p, best)
 }
 
-// The source's `dist_mat`, by the plain list.
-pub fn dist_mat_list(ws: &[u32; 22288], fs: &[f32; 22288], p: Vec3) -> DistHit
-    ensures { λ h. ⌜ h ≡ distMatList (now (ws .entry)) (now (fs .entry)) p ⌝ }
+// The planes, from f32::MAX and material 0.
+pub fn planes_hit(ws: &Words, fs: &Floats, p: Vec3) -> DistHit
+    ensures { λ h. ⌜ h ≡ nearest (planOf (now (ws .entry)) (now (fs .entry)) .planes) p nothing ⌝ }
 {
     let none = DistHit {
         d: 3.4028235e38,
         mat: 0,
     };
-    query_linear(ws, fs, p, nearest(ws, fs, 65, ws[1], p, none))
+    nearest(ws, fs, PLANE_ROW, ws[COUNT_PLANES], p, none)
 }

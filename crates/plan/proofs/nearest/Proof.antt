@@ -3,7 +3,7 @@ use borrow.Author.Needs.{needs}
 use Prim.Native.Nat.{_≤_, _-_}
 use mathlib.Core.Path.{_≡_}
 use native.Mathlib.Omega.{arith}
-use Rattle.plan.specs.Model.{piecesFrom}
+use Rattle.plan.specs.Plan.{piecesFrom}
 use Rattle.plan.specs.Nearest.{nearest}
 use Rattle.plan.proofs.Lists.{nearest-none, nearest-more}
 use Rattle.plan.proofs.nearest.Statement.{statement}
@@ -29,4 +29,4 @@ nearest-spec =
     tie.close
     (tie.spec
     Inv-loop μ-loop loop-holds (λ c. search needs) (λ c. search needs) (λ c κs. search needs)
-    (λ c. search needs) (λ c. search needs) loop-again returns)
+    (λ c κs. search needs) (λ c. search needs) (λ c. search needs) loop-again returns)

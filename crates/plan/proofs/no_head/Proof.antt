@@ -5,8 +5,8 @@ use Rattle.plan.proofs.no_head.Statement.{statement}
 use Rattle.plan.proofs.no_head.Tie as tie
 
 returns : tie.Need-returns
-returns c = rw (c .shape-of .ensures, c .before .no-vec2 .ensures, c .before .before .no-vec .ensures, zero-by-zero)
+returns c = rw (c .no-shape .ensures, zero-by-zero)
 
 pub no-head-spec : {M : Type 1} → statement M
 no-head-spec = tie.close (tie.spec
-    (λ c κs. search needs) (λ c κs. search needs) (λ c κs. search needs) returns)
+    (λ c κs. search needs) returns)

@@ -1,11 +1,12 @@
 -- `plan::query_linear` meets its contract, by that of `nearest`. Assumes nothing.
+use Rattle.plan.specs.Plan.{planOf}
 use Rattle.plan.specs.Nearest.{listHit}
 use borrow.Author.Needs.{needs}
 use Rattle.plan.proofs.query_linear.Statement.{statement}
 use Rattle.plan.proofs.query_linear.Tie as tie
 
 returns : tie.Need-returns
-unfolding listHit
+unfolding planOf listHit
 returns c = cc
 
 pub query-linear-spec : {M : Type 1} → statement M

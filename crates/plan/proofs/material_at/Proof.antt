@@ -1,0 +1,16 @@
+-- `plan::material_at` meets its contract, by those of its readers. Assumes nothing.
+use Rattle.plan.specs.Records.{materialAt}
+use borrow.Author.Needs.{needs}
+use Rattle.plan.proofs.material_at.Statement.{statement}
+use Rattle.plan.proofs.material_at.Tie as tie
+
+returns : tie.Need-returns
+unfolding materialAt
+returns c = cc
+
+pub material-at-spec : {M : Type 1} → statement M
+material-at-spec =
+    tie.close
+    (tie.spec
+    (λ c. search needs) (λ c κs. search needs) (λ c. search needs) (λ c κs. search needs) (λ c. search needs)
+    (λ c κs. search needs) returns)
