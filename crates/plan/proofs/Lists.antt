@@ -13,7 +13,7 @@ use Rattle.words.proofs.Runs.{from-snoc}
 use Rattle.plan.specs.declared.Cutter.{Cutter}
 use Rattle.plan.specs.declared.Head.{Head}
 use Rattle.plan.specs.declared.DistHit.{DistHit}
-use Rattle.plan.specs.Records.{wordOf, floatOf, noShape, noHead, cutterAt, headAt}
+use Rattle.plan.specs.Records.{wordOf, floatOf, vecOf, noVec, noShape, noHead, cutterAt, headAt}
 use Rattle.plan.specs.Plan.{Cuts, Piece, cutsBy, pieceAt, piecesFrom}
 use Rattle.plan.specs.Nearest.{cutBy, carve, hitOf, closer, nearest}
 
@@ -76,12 +76,17 @@ module _ (w : List ℕ) (f : List Float) where
       rw (at 1, at 2, at 3, at 4, at 5, at 6, at 7, at 8)
 
 -- past the last row
+float-past : (f : List Float) → length f ≡ 27296 → (i : ℕ) → 27296 ≤ i → getD f i nan ≡ nan
+float-past f l i h = List·getD-eq-default f nan (omega arith)
+
+pub vec-past : (f : List Float) → length f ≡ 27296 → (r k : ℕ) → 1706 ≤ r → vecOf f (16 * r + k) ≡ noVec
+vec-past f l r k h =
+    let i : ℕ = 16 * r + k in
+    rw (float-past f l i (omega arith), float-past f l (i + 1) (omega arith), float-past f l (i + 2) (omega arith))
+
 module _ (w : List ℕ) (f : List Float) (lw : length w ≡ 27296) (lf : length f ≡ 27296) where
   word-past : (i : ℕ) → 27296 ≤ i → getD w i 0 ≡ 0
   word-past i h = List·getD-eq-default w 0 (omega arith)
-
-  float-past : (i : ℕ) → 27296 ≤ i → getD f i nan ≡ nan
-  float-past i h = List·getD-eq-default f nan (omega arith)
 
   pub cutter-past : (r : ℕ) → 1706 ≤ r → cutterAt w f r ≡ record { kind = 0; shape = noShape }
   unfolding cutterAt
@@ -89,14 +94,14 @@ module _ (w : List ℕ) (f : List Float) (lw : length w ≡ 27296) (lf : length 
       let i : ℕ = 16 * r in
       rw (
         word-past i (omega arith),
-        float-past (i + 1) (omega arith),
-        float-past (i + 2) (omega arith),
-        float-past (i + 3) (omega arith),
-        float-past (i + 4) (omega arith),
-        float-past (i + 5) (omega arith),
-        float-past (i + 6) (omega arith),
-        float-past (i + 7) (omega arith),
-        float-past (i + 8) (omega arith),
+        float-past f lf (i + 1) (omega arith),
+        float-past f lf (i + 2) (omega arith),
+        float-past f lf (i + 3) (omega arith),
+        float-past f lf (i + 4) (omega arith),
+        float-past f lf (i + 5) (omega arith),
+        float-past f lf (i + 6) (omega arith),
+        float-past f lf (i + 7) (omega arith),
+        float-past f lf (i + 8) (omega arith),
       )
 
   pub head-past : (r : ℕ) → 1706 ≤ r → headAt w f r ≡ noHead
@@ -108,13 +113,13 @@ module _ (w : List ℕ) (f : List Float) (lw : length w ≡ 27296) (lf : length 
         word-past (i + 2) (omega arith),
         word-past (i + 3) (omega arith),
         word-past (i + 12) (omega arith),
-        float-past (i + 1) (omega arith),
-        float-past (i + 3 + 1) (omega arith),
-        float-past (i + 3 + 2) (omega arith),
-        float-past (i + 3 + 3) (omega arith),
-        float-past (i + 3 + 4) (omega arith),
-        float-past (i + 3 + 5) (omega arith),
-        float-past (i + 3 + 6) (omega arith),
-        float-past (i + 3 + 7) (omega arith),
-        float-past (i + 3 + 8) (omega arith),
+        float-past f lf (i + 1) (omega arith),
+        float-past f lf (i + 3 + 1) (omega arith),
+        float-past f lf (i + 3 + 2) (omega arith),
+        float-past f lf (i + 3 + 3) (omega arith),
+        float-past f lf (i + 3 + 4) (omega arith),
+        float-past f lf (i + 3 + 5) (omega arith),
+        float-past f lf (i + 3 + 6) (omega arith),
+        float-past f lf (i + 3 + 7) (omega arith),
+        float-past f lf (i + 3 + 8) (omega arith),
       )

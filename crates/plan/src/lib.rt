@@ -9,36 +9,53 @@ use vec::Vec3;
 
 // What a call works on, in one table: the plan, its arguments, the nodes and the order of a tree. It is held twice, as words and as floats.
 pub type Words = [u32; 27296];
+
 pub type Floats = [f32; 27296];
 
 pub const ROWS: usize = 1706;
+
 pub const TABLE: usize = 27296;
 
 // The first word of the arguments, of the nodes and of the order; the plan is at 0.
 pub const ARGS: usize = 22288;
+
 pub const NODES: usize = 22432;
+
 pub const ORDER: usize = 27031;
 
 // The words that count materials, planes, lights and objects.
 pub const COUNT_MATERIALS: usize = 0;
+
 pub const COUNT_PLANES: usize = 1;
+
 pub const COUNT_LIGHTS: usize = 2;
+
 pub const COUNT_OBJECTS: usize = 3;
 
 // The first row of each section, and of the arguments.
 pub const MATERIAL_ROW: u32 = 1;
+
 pub const PLANE_ROW: u32 = 65;
+
 pub const LIGHT_ROW: u32 = 81;
+
 pub const OBJECT_ROW: u32 = 113;
+
 pub const CUTTER_ROW: u32 = 369;
+
 pub const ARGS_ROW: u32 = 1393;
 
 // How many each section may have; cutters in all, and to one piece.
 pub const MATERIALS: u32 = 64;
+
 pub const PLANES: u32 = 16;
+
 pub const LIGHTS: u32 = 16;
+
 pub const OBJECTS: u32 = 256;
+
 pub const CUTTERS: u32 = 1024;
+
 pub const CUTS: u32 = 8;
 
 pub struct Material {
@@ -100,41 +117,62 @@ pub fn float_in(fs: &Floats, i: usize) -> f32
     0.0 / 0.0
 }
 
+// Place k of row r.
+fn float_at(fs: &Floats, r: usize, k: u32) -> f32
+    ensures { λ x. ⌜ x ≡ floatOf (now (fs .entry)) (16 * r + k) ⌝ }
+{
+    if r < ROWS {
+        return float_in(fs, 16 * r + k as usize);
+    }
+    let _floats: &[f32] = fs;
+    0.0 / 0.0
+}
+
 // Three floats from place k of row r on.
-pub fn vec_in(fs: &Floats, r: u32, k: u32) -> Vec3
+pub fn vec_at(fs: &Floats, r: usize, k: u32) -> Vec3
     ensures { λ v. ⌜ v ≡ vecOf (now (fs .entry)) (16 * r + k) ⌝ }
 {
-    let i = 16 * (r as usize) + k as usize;
-    Vec3 {
-        x: float_in(fs, i),
-        y: float_in(fs, i + 1),
-        z: float_in(fs, i + 2),
+    if r < ROWS {
+        let i = 16 * r + k as usize;
+        return Vec3 {
+            x: float_in(fs, i),
+            y: float_in(fs, i + 1),
+            z: float_in(fs, i + 2),
+        };
     }
+    let _floats: &[f32] = fs;
+    no_vec()
 }
 
 // The material in row r.
-pub fn material_at(fs: &Floats, r: u32) -> Material
+pub fn material_at(fs: &Floats, r: usize) -> Material
     ensures { λ m. ⌜ m ≡ materialAt (now (fs .entry)) r ⌝ }
 {
-    let i = 16 * (r as usize);
     Material {
-        albedo: vec_in(fs, r, 0),
-        roughness: float_in(fs, i + 3),
-        metallic: float_in(fs, i + 4),
+        albedo: vec_at(fs, r, 0),
+        roughness: float_at(fs, r, 3),
+        metallic: float_at(fs, r, 4),
     }
 }
 
 // The light whose first row is r.
-pub fn light_at(fs: &Floats, r: u32) -> QuadLight
+pub fn light_at(fs: &Floats, r: usize) -> QuadLight
     ensures { λ l. ⌜ l ≡ lightAt (now (fs .entry)) r ⌝ }
 {
     QuadLight {
-        v0: vec_in(fs, r, 0),
-        v1: vec_in(fs, r, 3),
-        v2: vec_in(fs, r, 6),
-        v3: vec_in(fs, r, 9),
-        emit: vec_in(fs, r, 12),
+        v0: vec_at(fs, r, 0),
+        v1: vec_at(fs, r, 3),
+        v2: vec_at(fs, r, 6),
+        v3: vec_at(fs, r, 9),
+        emit: vec_at(fs, r, 12),
     }
+}
+
+// Light l: two rows a record.
+pub fn light_in(fs: &Floats, l: u32) -> QuadLight
+    ensures { λ r. ⌜ r ≡ lightIn (now (fs .entry)) l ⌝ }
+{
+    light_at(fs, LIGHT_ROW as usize + 2 * (l as usize))
 }
 
 fn no_vec() -> Vec3

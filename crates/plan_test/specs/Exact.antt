@@ -1,15 +1,23 @@
--- What a plan's words are where the entries left them: the statement that the tests are held to, word by word. Definitions only.
-use Prim.Native.Nat.{ℕ, zero, suc, _+_, _≤_, _<_}
+-- What a plan is where the entries left it: the statement that the tests are held to. Definitions only.
+use Prim.Native.Nat.{ℕ, _+_, _≤_, _<_}
 use mathlib.Core.Path.{_≡_}
 use mathlib.Core.Bool.{Bool, true, false}
-use mathlib.Core.List.{List}
+use mathlib.Core.List.{List, [], _∷_}
+use lib.ListN.{length}
 use lib.Dec.{T, eqb}
-use lib.Ieee.{Float}
+use Rattle.vec.specs.Vec.{vsub}
 use Rattle.sdf.specs.declared.Shape.{Shape}
-use Rattle.refusals.specs.Ranges.{size}
+use Rattle.words.specs.Lists.{All}
+use Rattle.refusals.specs.Ranges.{far, coordinates, withinUpTo, radius}
 use Rattle.refusals.specs.Prims.{shapeOk, flat}
+use Rattle.plan.specs.declared.QuadLight.{QuadLight}
+use Rattle.plan.specs.declared.Cutter.{Cutter}
 use Rattle.plan.specs.declared.Head.{Head}
-use Rattle.plan.specs.Model.{countMaterials, countPlanes, countLights, countObjects, planeRow, objectRow, headAt, cutterKind, cutterAt}
+use Rattle.plan.specs.Sections.{cutterPlaces, cutsMost}
+use Rattle.plan.specs.Sections as sections
+use Rattle.plan.specs.Plan.{Piece, Plan}
+use Rattle.plan_test.specs.Numbers.{dark}
+use Rattle.plan_test.specs.Tests.{cuttersOf}
 
 -- a primitive that an entry takes
 pub record PrimOk (kind : ℕ) (s : Shape) : Type 0 where
@@ -17,46 +25,64 @@ pub record PrimOk (kind : ℕ) (s : Shape) : Type 0 where
   pub ranges : T (shapeOk s)
   pub extent : flat s ≡ false
 
+abbrev pub CutterOk : Cutter → Type 0
+CutterOk c = PrimOk (c .kind) (c .shape)
+
 -- a piece's own words, in the list of planes or in that of objects
-pub record PieceOk (planes : Bool) (materials : ℕ) (h : Head) : Type 0 where
+pub record HeadOk (planes : Bool) (materials : ℕ) (h : Head) : Type 0 where
   pub prim : PrimOk (h .kind) (h .shape)
-  pub blend : T (size (h .blend))
+  pub blend : T (radius (h .blend))
   pub material : h .material < materials
   pub list : eqb (h .kind) 2 ≡ planes
 
--- the cutters of the first j pieces from row r on
-unfoldable pub cuttersBefore : List ℕ → List Float → ℕ → ℕ → ℕ
-cuttersBefore w f r zero = 0
-cuttersBefore w f r (suc j) = cuttersBefore w f r j + headAt w f (r + j) .cutters
+-- a piece with its cutters
+pub record PieceOk (planes : Bool) (materials : ℕ) (o : Piece) : Type 0 where
+  pub own : HeadOk planes materials (o .head)
+  pub few : o .head .cutters ≤ cutsMost
+  pub cuts : All CutterOk (o .cuts)
 
--- "The 1,024 cutter places are shared from both ends, with no gap"
-abbrev pub PlaceIs : Bool → ℕ → ℕ → ℕ → Type 0
-PlaceIs true place before after = place + after ≡ 1024
-PlaceIs false place before after = place ≡ before
+-- "The 1,024 cutter places are shared from both ends, with no gap": the place of a piece after pieces with so many cutters
+abbrev pub PlaceIs : Bool → ℕ → Head → Type 0
+PlaceIs true before h = h .place + (before + h .cutters) ≡ cutterPlaces
+PlaceIs false before h = h .place ≡ before
 
--- n pieces from row r on, each with its cutters
-pub record PiecesOk (planes : Bool) (w : List ℕ) (f : List Float) (r n : ℕ) : Type 0 where
-  pub own : (j : ℕ) → j < n → PieceOk planes (countMaterials w) (headAt w f (r + j))
-  pub few : (j : ℕ) → j < n → headAt w f (r + j) .cutters ≤ 8
-  pub place : (j : ℕ) → j < n → PlaceIs planes (headAt w f (r + j) .place) (cuttersBefore w f r j) (cuttersBefore w f r (suc j))
-  pub cutter : (j : ℕ) → j < n → (k : ℕ) → k < headAt w f (r + j) .cutters
-      → PrimOk (cutterKind w (headAt w f (r + j) .place + k)) (cutterAt w f (headAt w f (r + j) .place + k))
+abbrev pub PlacesAre : Bool → ℕ → List Piece → Type 0
+PlacesAre planes before [] = Unit {0}
+PlacesAre planes before (o ∷ os) = PlaceIs planes before (o .head) × PlacesAre planes (before + o .head .cutters) os
 
-pub record CountsOk (w : List ℕ) : Type 0 where
-  pub materials : countMaterials w ≤ 64
-  pub planes : countPlanes w ≤ 16
-  pub lights : countLights w ≤ 16
-  pub objects : countObjects w ≤ 256
+-- a list of pieces
+pub record PiecesOk (planes : Bool) (materials : ℕ) (os : List Piece) : Type 0 where
+  pub each : All (PieceOk planes materials) os
+  pub places : PlacesAre planes 0 os
+
+pub record CountsOk (p : Plan) : Type 0 where
+  pub materials : length (p .materials) ≤ sections.materials .most
+  pub planes : length (p .planes) ≤ sections.planes .most
+  pub lights : length (p .lights) ≤ sections.lights .most
+  pub objects : length (p .objects) ≤ sections.objects .most
 
 -- the objects with their cutters
-pub record SoundObjects (w : List ℕ) (f : List Float) : Type 0 where
-  pub counts : CountsOk w
-  pub objects : PiecesOk false w f objectRow (countObjects w)
-  pub room : cuttersBefore w f objectRow (countObjects w) ≤ 1024
+pub record SoundObjects (p : Plan) : Type 0 where
+  pub counts : CountsOk p
+  pub objects : PiecesOk false (length (p .materials)) (p .objects)
+  pub room : cuttersOf (p .objects) ≤ cutterPlaces
 
 -- planes and objects with their cutters
-pub record SoundSolids (w : List ℕ) (f : List Float) : Type 0 where
-  pub counts : CountsOk w
-  pub planes : PiecesOk true w f planeRow (countPlanes w)
-  pub objects : PiecesOk false w f objectRow (countObjects w)
-  pub room : cuttersBefore w f planeRow (countPlanes w) + cuttersBefore w f objectRow (countObjects w) ≤ 1024
+pub record SoundSolids (p : Plan) : Type 0 where
+  pub counts : CountsOk p
+  pub planes : PiecesOk true (length (p .materials)) (p .planes)
+  pub objects : PiecesOk false (length (p .materials)) (p .objects)
+  pub room : cuttersOf (p .planes) + cuttersOf (p .objects) ≤ cutterPlaces
+
+-- a light that an entry takes
+pub record LightOk (l : QuadLight) : Type 0 where
+  pub v0 : T (coordinates (l .v0))
+  pub v1 : T (coordinates (l .v1))
+  pub v2 : T (coordinates (l .v2))
+  pub v3 : T (coordinates (l .v3))
+  pub emit : T (withinUpTo (l .emit) far)
+  pub extent : dark (vsub (l .v1) (l .v0)) (vsub (l .v3) (l .v0)) ≡ false
+
+pub record SoundLit (p : Plan) : Type 0 where
+  pub solids : SoundSolids p
+  pub lights : All LightOk (p .lights)

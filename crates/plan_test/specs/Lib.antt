@@ -1,2 +1,3 @@
-pub mod Sound
+pub mod Numbers
+pub mod Tests
 pub mod Exact

@@ -1,30 +1,96 @@
-// Tests of a plan: which number it gets for the sections that a call reads.
+// Tests of a plan: which number it gets for the sections that a call reads, and what a record gets wherever it is given.
 ghost use mathlib.Core.Path.{_≡_};
 ghost use mathlib.Core.Bool.{true, false, cond, Bool·beq};
-ghost use Rattle.plan_test.specs.Sound.{countsOk, ownNumber, placeOk, usedWith, tallyOne, tally, noTally, headsFrom, cutterNumber, cuttersNumber, pieceCutters, piecesCutters, objectsNumber, solidsCutters, solidsOf};
-ghost use Rattle.plan.specs.Model.{countMaterials};
+ghost use Prim.Native.Nat.{_+_};
+ghost use lib.Dec.{leb, eqb};
+ghost use Rattle.words.specs.Lists.{listFrom};
+ghost use Rattle.refusals.specs.Refusals.{lowestOf, noRoom};
+ghost use Rattle.plan.specs.Sections.{materials};
+ghost use Rattle.plan.specs.Records.{lightIn};
+ghost use Rattle.plan.specs.Plan.{cutsBy, pieceAt, piecesFrom, countOf, planOf, planIn};
+ghost use Rattle.plan_test.specs.Numbers.{materialNumber, dark, lightNumber, cutterNumber, cutsNumber, ownNumber, pieceCuts};
+ghost use Rattle.plan_test.specs.Tests.{countsOk, placeOk, tallyOf, objectsNumber, solidsOf, litNumber};
+use plan::Cutter;
+use plan::Floats;
 use plan::Head;
+use plan::Material;
+use plan::QuadLight;
+use plan::Words;
+use vec::Vec3;
 
-// Pieces so far: their number, whether every place is right, and how many places they use.
+// Pieces: what their own words get, whether every place is right, and how many places they use.
 pub struct Tally {
     pub number: u32,
     pub placed: bool,
-    pub used: u32,
+    pub used: u64,
 }
 
 // What planes and objects get, and how many places each of the two lists uses.
 pub struct Solids {
     pub number: u32,
-    pub planes: u32,
-    pub objects: u32,
+    pub planes: u64,
+    pub objects: u64,
 }
 
-pub fn counts_ok(ws: &[u32; 22288]) -> bool
-    ensures { λ r. ⌜ r ≡ countsOk (now (ws .entry)) ⌝ }
+pub fn material_number(m: Material) -> u32
+    ensures { λ r. ⌜ r ≡ materialNumber m ⌝ }
+{
+    refusals::unless(
+        refusals::BAD_NUMBER,
+        refusals::both(
+            refusals::within_up_to(m.albedo, 1.0),
+            refusals::both(
+                refusals::up_to(m.roughness, 1.0),
+                refusals::up_to(m.metallic, 1.0),
+            ),
+        ),
+    )
+}
+
+// Two edges that span nothing.
+fn dark(e1: Vec3, e2: Vec3) -> bool
+    ensures { λ r. ⌜ r ≡ dark e1 e2 ⌝ }
+{
+    if refusals::no_length(e1) {
+        return true;
+    }
+    if refusals::no_length(e2) {
+        return true;
+    }
+    e1.cross(e2).length() == 0.0
+}
+
+pub fn light_number(l: QuadLight) -> u32
+    ensures { λ r. ⌜ r ≡ lightNumber l ⌝ }
+{
+    let corners = refusals::both(
+        refusals::coordinates(l.v0),
+        refusals::both(
+            refusals::coordinates(l.v1),
+            refusals::both(refusals::coordinates(l.v2), refusals::coordinates(l.v3)),
+        ),
+    );
+    refusals::lower(
+        refusals::unless(
+            refusals::BAD_NUMBER,
+            refusals::both(corners, refusals::within_up_to(l.emit, refusals::FAR)),
+        ),
+        refusals::unless(refusals::NO_EXTENT, !dark(l.v1.sub(l.v0), l.v3.sub(l.v0))),
+    )
+}
+
+pub fn counts_ok(ws: &Words) -> bool
+    ensures { λ r. ⌜ r ≡ countsOk (planIn (now (ws .entry))) ⌝ }
 {
     refusals::both(
-        ws[0] <= 64,
-        refusals::both(ws[1] <= 16, refusals::both(ws[2] <= 16, ws[3] <= 256)),
+        ws[plan::COUNT_MATERIALS] <= plan::MATERIALS,
+        refusals::both(
+            ws[plan::COUNT_PLANES] <= plan::PLANES,
+            refusals::both(
+                ws[plan::COUNT_LIGHTS] <= plan::LIGHTS,
+                ws[plan::COUNT_OBJECTS] <= plan::OBJECTS,
+            ),
+        ),
     )
 }
 
@@ -45,170 +111,183 @@ pub fn own_number(planes: bool, materials: u32, h: Head) -> u32
     refusals::lower(
         refusals::lower(
             refusals::prim_number(h.kind, shape),
-            refusals::unless(1, refusals::up_to(h.blend, 10000.0)),
+            refusals::unless(refusals::BAD_NUMBER, refusals::radius(h.blend)),
         ),
         refusals::lower(
-            refusals::unless(3, h.material < materials),
-            refusals::unless(5, same(h.kind == 2, planes)),
+            refusals::unless(refusals::NO_MATERIAL, h.material < materials),
+            refusals::unless(refusals::WRONG_LIST, same(h.kind == 2, planes)),
         ),
     )
 }
 
-// Before and after are the places used without and with the piece.
-fn place_ok(planes: bool, before: u32, after: u32, place: u32) -> bool
-    ensures { λ r. ⌜ r ≡ placeOk planes before after place ⌝ }
+// `before` is how many places the pieces before this one use.
+fn place_right(planes: bool, before: u64, place: u32, cutters: u32) -> bool
+    ensures { λ r. ⌜ r ≡ cond planes (eqb (place + (before + cutters)) 1024) (eqb place before) ⌝ }
 {
     if planes {
-        return place as u64 + after as u64 == 1024;
-    }
-    place == before
-}
-
-// For an n above 8, and past 1,024, it counts no further.
-fn used_with(used: u32, n: u32) -> u32
-    ensures { λ r. ⌜ r ≡ usedWith used n ⌝ }
-{
-    if n <= 8 {
-        if used <= 1024 {
-            return used + n;
+        if before > plan::CUTTERS as u64 {
+            return false;
         }
+        return place as u64 + (before + cutters as u64) == plan::CUTTERS as u64;
     }
-    used
+    place as u64 == before
 }
 
-// One piece more.
-fn tally_one(planes: bool, materials: u32, t: Tally, h: Head) -> Tally
-    ensures { λ r. ⌜ r ≡ tallyOne planes materials t h ⌝ }
+fn place_ok(planes: bool, before: u64, h: Head) -> bool
+    ensures { λ r. ⌜ r ≡ placeOk planes before h ⌝ }
 {
-    let after = used_with(t.used, h.cutters);
-    Tally {
-        number: refusals::lower(t.number, own_number(planes, materials, h)),
-        placed: refusals::both(
-            t.placed,
-            refusals::both(h.cutters <= 8, place_ok(planes, t.used, after, h.place)),
-        ),
-        used: after,
-    }
+    refusals::both(
+        h.cutters <= plan::CUTS,
+        place_right(planes, before, h.place, h.cutters),
+    )
 }
 
-// n pieces from row r on.
-fn tally_rows(ws: &[u32; 22288], fs: &[f32; 22288], planes: bool, r: u32, n: u32) -> Tally
-    ensures { λ t. ⌜ t ≡ tally planes (countMaterials (now (ws .entry))) noTally (headsFrom (now (ws .entry)) (now (fs .entry)) r n) ⌝ }
+// n pieces from row r on. No sum of so many words wraps.
+fn tally_rows(ws: &Words, fs: &Floats, planes: bool, r: u32, n: u32) -> Tally
+    ensures { λ t. ⌜ t ≡ tallyOf planes (countOf materials (now (ws .entry))) (piecesFrom (now (ws .entry)) (now (fs .entry)) r n) ⌝ }
 {
-    let materials = ws[0];
-    let mut t = Tally {
-        number: 0,
-        placed: true,
-        used: 0,
-    };
+    let materials = ws[plan::COUNT_MATERIALS];
+    let mut number: u32 = 0;
+    let mut placed = true;
+    let mut used: u64 = 0;
     let mut j: u32 = 0;
     while j < n {
-        t = tally_one(
-            planes,
-            materials,
-            t,
-            plan::head_at(ws, fs, r as usize + j as usize),
-        );
+        let h = plan::head_at(ws, fs, r as usize + j as usize);
+        number = refusals::lower(number, own_number(planes, materials, h));
+        placed = refusals::both(placed, place_ok(planes, used, h));
+        used = used + h.cutters as u64;
         j += 1;
     }
-    t
+    Tally {
+        number,
+        placed,
+        used,
+    }
 }
 
-fn cutter_number(ws: &[u32; 22288], fs: &[f32; 22288], c: usize) -> u32
-    ensures { λ r. ⌜ r ≡ cutterNumber (now (ws .entry)) (now (fs .entry)) c ⌝ }
+fn cutter_number(c: Cutter) -> u32
+    ensures { λ r. ⌜ r ≡ cutterNumber c ⌝ }
 {
-    refusals::prim_number(plan::cutter_kind(ws, c), plan::cutter(ws, fs, c))
+    let shape = c.shape;
+    refusals::prim_number(c.kind, shape)
 }
 
-// n cutters from a place on.
-fn cutters_number(ws: &[u32; 22288], fs: &[f32; 22288], place: u32, n: u32) -> u32
-    ensures { λ r. ⌜ r ≡ cuttersNumber (now (ws .entry)) (now (fs .entry)) place n ⌝ }
+// n cutters from a place on, the first place being row `base`.
+pub fn cuts_number(ws: &Words, fs: &Floats, base: u32, place: u32, n: u32) -> u32
+    ensures { λ r. ⌜ r ≡ cutsNumber (cutsBy (now (ws .entry)) (now (fs .entry)) (base + place) n) ⌝ }
 {
     let mut least: u32 = 0;
     let mut j: u32 = 0;
     while j < n {
-        least = refusals::lower(least, cutter_number(ws, fs, place as usize + j as usize));
+        let c = plan::cutter_at(ws, fs, base as usize + place as usize + j as usize);
+        least = refusals::lower(least, cutter_number(c));
         j += 1;
     }
     least
 }
 
-fn piece_cutters(ws: &[u32; 22288], fs: &[f32; 22288], r: usize) -> u32
-    ensures { λ n. ⌜ n ≡ pieceCutters (now (ws .entry)) (now (fs .entry)) r ⌝ }
+// The cutters of the piece in row r.
+fn piece_cuts(ws: &Words, fs: &Floats, r: usize) -> u32
+    ensures { λ n. ⌜ n ≡ pieceCuts (pieceAt (now (ws .entry)) (now (fs .entry)) r) ⌝ }
 {
     let h = plan::head_at(ws, fs, r);
-    cutters_number(ws, fs, h.place, h.cutters)
+    cuts_number(ws, fs, plan::CUTTER_ROW, h.place, h.cutters)
 }
 
 // The cutters of n pieces from row r on.
-fn pieces_cutters(ws: &[u32; 22288], fs: &[f32; 22288], r: u32, n: u32) -> u32
-    ensures { λ m. ⌜ m ≡ piecesCutters (now (ws .entry)) (now (fs .entry)) r n ⌝ }
+fn pieces_cuts(ws: &Words, fs: &Floats, r: u32, n: u32) -> u32
+    ensures { λ m. ⌜ m ≡ lowestOf pieceCuts (piecesFrom (now (ws .entry)) (now (fs .entry)) r n) ⌝ }
 {
     let mut least: u32 = 0;
     let mut j: u32 = 0;
     while j < n {
-        least = refusals::lower(least, piece_cutters(ws, fs, r as usize + j as usize));
+        least = refusals::lower(least, piece_cuts(ws, fs, r as usize + j as usize));
         j += 1;
     }
     least
 }
 
 // The same, where every place is right.
-fn placed_cutters(ws: &[u32; 22288], fs: &[f32; 22288], placed: bool, r: u32, n: u32) -> u32
-    ensures { λ m. ⌜ m ≡ cond placed (piecesCutters (now (ws .entry)) (now (fs .entry)) r n) 2 ⌝ }
+fn placed_cuts(ws: &Words, fs: &Floats, placed: bool, r: u32, n: u32) -> u32
+    ensures { λ m. ⌜ m ≡ cond placed (lowestOf pieceCuts (piecesFrom (now (ws .entry)) (now (fs .entry)) r n)) noRoom ⌝ }
 {
     if placed {
-        return pieces_cutters(ws, fs, r, n);
+        return pieces_cuts(ws, fs, r, n);
     }
-    2
+    refusals::NO_ROOM
 }
 
 // The objects with their cutters.
-pub fn objects_number(ws: &[u32; 22288], fs: &[f32; 22288]) -> u32
-    ensures { λ r. ⌜ r ≡ objectsNumber (now (ws .entry)) (now (fs .entry)) ⌝ }
+pub fn objects_number(ws: &Words, fs: &Floats) -> u32
+    ensures { λ r. ⌜ r ≡ objectsNumber (planOf (now (ws .entry)) (now (fs .entry))) ⌝ }
 {
     if counts_ok(ws) {
-        let t = tally_rows(ws, fs, false, 113, ws[3]);
-        let placed = refusals::both(t.placed, t.used <= 1024);
-        return refusals::lower(t.number, placed_cutters(ws, fs, placed, 113, ws[3]));
+        let n = ws[plan::COUNT_OBJECTS];
+        let t = tally_rows(ws, fs, false, plan::OBJECT_ROW, n);
+        let placed = refusals::both(t.placed, t.used <= plan::CUTTERS as u64);
+        return refusals::lower(t.number, placed_cuts(ws, fs, placed, plan::OBJECT_ROW, n));
     }
-    2
+    refusals::NO_ROOM
 }
 
-// The cutters of planes and objects, where every place is right.
-fn solids_cutters(ws: &[u32; 22288], fs: &[f32; 22288], placed: bool) -> u32
-    ensures { λ r. ⌜ r ≡ solidsCutters (now (ws .entry)) (now (fs .entry)) placed ⌝ }
+// Whether planes and objects together have no more cutters than there are places.
+fn fits(planes: u64, objects: u64) -> bool
+    ensures { λ r. ⌜ r ≡ leb (planes + objects) 1024 ⌝ }
 {
-    if placed {
-        return refusals::lower(
-            pieces_cutters(ws, fs, 65, ws[1]),
-            pieces_cutters(ws, fs, 113, ws[3]),
-        );
+    if planes > plan::CUTTERS as u64 {
+        return false;
     }
-    2
+    if objects > plan::CUTTERS as u64 {
+        return false;
+    }
+    planes + objects <= plan::CUTTERS as u64
 }
 
 // Planes and objects with their cutters.
-pub fn judge_solids(ws: &[u32; 22288], fs: &[f32; 22288]) -> Solids
-    ensures { λ r. ⌜ r ≡ solidsOf (now (ws .entry)) (now (fs .entry)) ⌝ }
+pub fn judge_solids(ws: &Words, fs: &Floats) -> Solids
+    ensures { λ r. ⌜ r ≡ solidsOf (planOf (now (ws .entry)) (now (fs .entry))) ⌝ }
 {
     if counts_ok(ws) {
-        let p = tally_rows(ws, fs, true, 65, ws[1]);
-        let o = tally_rows(ws, fs, false, 113, ws[3]);
-        let fits = p.used as u64 + o.used as u64 <= 1024;
-        let placed = refusals::both(p.placed, refusals::both(o.placed, fits));
+        let p = tally_rows(ws, fs, true, plan::PLANE_ROW, ws[plan::COUNT_PLANES]);
+        let o = tally_rows(ws, fs, false, plan::OBJECT_ROW, ws[plan::COUNT_OBJECTS]);
+        let placed = refusals::both(p.placed, refusals::both(o.placed, fits(p.used, o.used)));
+        let cuts = refusals::lower(
+            placed_cuts(ws, fs, placed, plan::PLANE_ROW, ws[plan::COUNT_PLANES]),
+            placed_cuts(ws, fs, placed, plan::OBJECT_ROW, ws[plan::COUNT_OBJECTS]),
+        );
         return Solids {
-            number: refusals::lower(
-                refusals::lower(p.number, o.number),
-                solids_cutters(ws, fs, placed),
-            ),
+            number: refusals::lower(refusals::lower(p.number, o.number), cuts),
             planes: p.used,
             objects: o.used,
         };
     }
     Solids {
-        number: 2,
+        number: refusals::NO_ROOM,
         planes: 0,
         objects: 0,
     }
+}
+
+// The first n lights.
+fn lights_number(fs: &Floats, n: u32) -> u32
+    ensures { λ r. ⌜ r ≡ lowestOf lightNumber (listFrom (lightIn (now (fs .entry))) 0 n) ⌝ }
+{
+    let mut least: u32 = 0;
+    let mut l: u32 = 0;
+    while l < n {
+        least = refusals::lower(least, light_number(plan::light_in(fs, l)));
+        l += 1;
+    }
+    least
+}
+
+// Planes and objects with their cutters, and lights.
+pub fn lit_number(ws: &Words, fs: &Floats) -> u32
+    ensures { λ r. ⌜ r ≡ litNumber (planOf (now (ws .entry)) (now (fs .entry))) ⌝ }
+{
+    if counts_ok(ws) {
+        let s = judge_solids(ws, fs);
+        return refusals::lower(s.number, lights_number(fs, ws[plan::COUNT_LIGHTS]));
+    }
+    refusals::NO_ROOM
 }

@@ -10,7 +10,7 @@ use Rattle.vec.specs.Vec.{vsub, vdot}
 use Rattle.sdf.specs.declared.Shape.{Shape}
 use Rattle.sdf.specs.declared.Shape.the-variants.{Sphere, RoundBox, Plane, Capsule, Torus, Cylinder, Cone}
 use Rattle.refusals.specs.Refusals.{badNumber, noExtent, unless, lower}
-use Rattle.refusals.specs.Ranges.{far, steep, within, withinUpTo, coordinates, size}
+use Rattle.refusals.specs.Ranges.{far, steep, within, withinUpTo, coordinates, radius}
 
 -- a kind and eight floats: a the first three, b the next three, then u and v. sphere c, r; round box c, b, r; plane n, h; capsule a, b, r;
 -- torus c, major, minor; cylinder a, b, r; cone a, b, ra, rb
@@ -25,13 +25,13 @@ shapeOf k a b u v =
     (Cone a b u v))))))
 
 unfoldable pub shapeOk : Shape → Bool
-shapeOk (Sphere c r) = coordinates c && size r
-shapeOk (RoundBox c b r) = coordinates c && (withinUpTo b far && size r)
+shapeOk (Sphere c r) = coordinates c && radius r
+shapeOk (RoundBox c b r) = coordinates c && (withinUpTo b far && radius r)
 shapeOk (Plane n h) = within n steep && magnitude h far
-shapeOk (Capsule a b r) = coordinates a && (coordinates b && size r)
-shapeOk (Torus c major minor) = coordinates c && (size major && size minor)
-shapeOk (Cylinder a b r) = coordinates a && (coordinates b && size r)
-shapeOk (Cone a b ra rb) = coordinates a && (coordinates b && (size ra && size rb))
+shapeOk (Capsule a b r) = coordinates a && (coordinates b && radius r)
+shapeOk (Torus c major minor) = coordinates c && (radius major && radius minor)
+shapeOk (Cylinder a b r) = coordinates a && (coordinates b && radius r)
+shapeOk (Cone a b ra rb) = coordinates a && (coordinates b && (radius ra && radius rb))
 
 unfoldable pub noLength : Vec3 → Bool
 noLength v = eq (vdot v v) f0

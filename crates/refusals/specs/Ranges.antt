@@ -36,5 +36,5 @@ unfoldable pub coordinates : Vec3 → Bool
 coordinates v = within v far
 
 -- a radius or a blend
-unfoldable pub size : Float → Bool
-size x = upTo x far
+unfoldable pub radius : Float → Bool
+radius x = upTo x far

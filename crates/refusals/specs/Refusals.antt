@@ -1,6 +1,7 @@
 -- "Numbers sent back. Each number is tested only where it applies; where several apply the lowest is sent." Definitions only.
 use Prim.Native.Nat.{ℕ, min}
 use mathlib.Core.Bool.{Bool, cond}
+use mathlib.Core.List.{List, [], _∷_}
 use lib.Dec.{eqb}
 
 abbrev pub done : ℕ
@@ -49,3 +50,8 @@ unless n ok = cond ok done n
 -- the lowest wins
 unfoldable pub lower : ℕ → ℕ → ℕ
 lower a b = cond (eqb a done) b (cond (eqb b done) a (min a b))
+
+-- the lowest of what each of a list gets
+unfoldable pub lowestOf : {A : Type 0} → (A → ℕ) → List A → ℕ
+lowestOf number [] = done
+lowestOf number (x ∷ xs) = lower (number x) (lowestOf number xs)

@@ -2,10 +2,38 @@
 ghost use mathlib.Core.Path.{_≡_};
 ghost use mathlib.Core.Bool.{_&&_};
 ghost use Rattle.refusals.specs.Refusals.{lower, unless};
-ghost use Rattle.refusals.specs.Ranges.{upTo, within, withinUpTo, coordinates, size};
+ghost use Rattle.refusals.specs.Ranges.{upTo, within, withinUpTo, coordinates, radius};
 ghost use Rattle.refusals.specs.Prims.{shapeOf, shapeOk, noLength, flat, primNumber};
 use sdf::Shape;
 use vec::Vec3;
+
+// The numbers sent back, but for 0: done.
+pub const BAD_NUMBER: u32 = 1;
+
+pub const NO_ROOM: u32 = 2;
+
+pub const NO_MATERIAL: u32 = 3;
+
+pub const NO_EXTENT: u32 = 4;
+
+pub const WRONG_LIST: u32 = 5;
+
+pub const BAD_TREE: u32 = 6;
+
+pub const TOO_DEEP: u32 = 7;
+
+pub const NO_TREE: u32 = 8;
+
+pub const AT_LIGHT: u32 = 9;
+
+// The limits of given numbers: coordinates, radii, blend and emission; a direction's components; query points; any finite number.
+pub const FAR: f32 = 10000.0;
+
+pub const STEEP: f32 = 1.5;
+
+pub const FARTHEST: f32 = 200000.0;
+
+pub const GREATEST: f32 = 3.4028235e38;
 
 // Of two numbers sent back the lower, where 0 is none.
 pub fn lower(a: u32, b: u32) -> u32
@@ -77,16 +105,17 @@ pub fn shape_of(kind: u32, a: Vec3, b: Vec3, u: f32, v: f32) -> Shape
     }
 }
 
-fn coordinates(v: Vec3) -> bool
+pub fn coordinates(v: Vec3) -> bool
     ensures { λ r. ⌜ r ≡ coordinates v ⌝ }
 {
-    within(v, 10000.0)
+    within(v, FAR)
 }
 
-fn size(x: f32) -> bool
-    ensures { λ r. ⌜ r ≡ size x ⌝ }
+// A radius or a blend.
+pub fn radius(x: f32) -> bool
+    ensures { λ r. ⌜ r ≡ radius x ⌝ }
 {
-    up_to(x, 10000.0)
+    up_to(x, FAR)
 }
 
 // Every number of a shape is in its range.
@@ -94,18 +123,17 @@ pub fn shape_ok(s: Shape) -> bool
     ensures { λ r. ⌜ r ≡ shapeOk s ⌝ }
 {
     match s {
-        Shape::Sphere { c, r } => both(coordinates(c), size(r)),
-        Shape::RoundBox { c, b, r } => both(
-            coordinates(c),
-            both(within_up_to(b, 10000.0), size(r)),
-        ),
-        Shape::Plane { n, h } => both(within(n, 1.5), scalar::magnitude(h, 10000.0)),
-        Shape::Capsule { a, b, r } => both(coordinates(a), both(coordinates(b), size(r))),
-        Shape::Torus { c, major, minor } => { both(coordinates(c), both(size(major), size(minor))) }
-        Shape::Cylinder { a, b, r } => both(coordinates(a), both(coordinates(b), size(r))),
+        Shape::Sphere { c, r } => both(coordinates(c), radius(r)),
+        Shape::RoundBox { c, b, r } => both(coordinates(c), both(within_up_to(b, FAR), radius(r))),
+        Shape::Plane { n, h } => both(within(n, STEEP), scalar::magnitude(h, FAR)),
+        Shape::Capsule { a, b, r } => both(coordinates(a), both(coordinates(b), radius(r))),
+        Shape::Torus { c, major, minor } => {
+            both(coordinates(c), both(radius(major), radius(minor)))
+        }
+        Shape::Cylinder { a, b, r } => both(coordinates(a), both(coordinates(b), radius(r))),
         Shape::Cone { a, b, ra, rb } => both(
             coordinates(a),
-            both(coordinates(b), both(size(ra), size(rb))),
+            both(coordinates(b), both(radius(ra), radius(rb))),
         ),
     }
 }
@@ -136,5 +164,8 @@ pub fn flat(s: Shape) -> bool
 pub fn prim_number(kind: u32, s: Shape) -> u32
     ensures { λ r. ⌜ r ≡ primNumber kind s ⌝ }
 {
-    lower(unless(1, both(kind <= 6, shape_ok(s))), unless(4, !flat(s)))
+    lower(
+        unless(BAD_NUMBER, both(kind <= 6, shape_ok(s))),
+        unless(NO_EXTENT, !flat(s)),
+    )
 }

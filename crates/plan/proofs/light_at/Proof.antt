@@ -1,4 +1,4 @@
--- `plan::light_at` meets its contract, by that of `vec_in`. Assumes nothing.
+-- `plan::light_at` meets its contract, by that of `vec_at`. Assumes nothing.
 use Rattle.plan.specs.Records.{lightAt}
 use borrow.Author.Needs.{needs}
 use Rattle.plan.proofs.light_at.Statement.{statement}
