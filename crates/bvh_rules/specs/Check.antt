@@ -1,5 +1,5 @@
--- The checker's answer and its numbers. That it accepts exactly what the rules allow is a theorem of proofs/Exact.antt; how it
--- walks stands in Inside/Steps.antt. Definitions only.
+-- The checker's answer and its numbers. That it accepts exactly what the rules allow is a theorem of proofs/Exact.antt;
+-- how it walks stands in Inside/Steps.antt. Definitions only.
 use Prim.Native.Nat.{ℕ}
 use mathlib.Core.Bool.{Bool, true, false, cond}
 use mathlib.Core.List.{List}
@@ -25,7 +25,8 @@ abbrev pub isGood : Sub → Bool
 isGood Bad = false
 isGood (Good next end) = true
 
--- "6: an offered tree breaks a tree rule other than depth; 7: meets all but depth", of one that is not good with 64 levels
+-- "6: an offered tree breaks a tree rule other than depth; 7: meets all but depth", of one that is not good with 64
+-- levels
 abbrev pub refusedNumber : List ℕ → List Float → List ℕ → List Aabb → ℕ
 refusedNumber w f o bs = cond (isGood (judgeOf 256 w f o bs)) tooDeep badTree
 

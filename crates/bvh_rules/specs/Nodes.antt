@@ -1,5 +1,5 @@
--- "A node is lo x y z, hi x y z, start, count, right": what the words of the nodes stand for, held as whole numbers (w) and
--- as floats (f) at the same places, and where nodes and order lie in a call's table. Definitions only.
+-- "A node is lo x y z, hi x y z, start, count, right": what the words of the nodes stand for, held as whole numbers (w)
+-- and as floats (f) at the same places, and where nodes and order lie in a call's table. Definitions only.
 use Prim.Native.Nat.{ℕ, _+_, _*_}
 use mathlib.Core.List.{List}
 use lib.ListN.{take, drop}

@@ -34,9 +34,9 @@ abbrev pub depth : Tree → ℕ
 depth (leaf b c) = 0
 depth (node b l r) = 1 + max (depth l) (depth r)
 
--- "Nodes lie in pre-order: an interior node has count 0, start 0, its left child at the next place and `right` at the first
--- place after the left subtree. A leaf has count above 0 and right 0, and its start is where the leaf before it ended." The
--- tree stands at place `at`, its first leaf starts at s.
+-- "Nodes lie in pre-order: an interior node has count 0, start 0, its left child at the next place and `right` at the
+-- first place after the left subtree. A leaf has count above 0 and right 0, and its start is where the leaf before it
+-- ended." The tree stands at place `at`, its first leaf starts at s.
 abbrev pub Stands : List ℕ → List Float → ℕ → ℕ → Tree → Type 0
 Stands w f at s (leaf b c) = (nodeAt w f at ≡ leafNode b s c) × (0 < c)
 Stands w f at s (node b l r) =

@@ -95,14 +95,16 @@ pub fn order_at(ws: &Words, i: usize) -> u32
 }
 
 fn held(ws: &Words, fs: &Floats, b: Aabb, i: usize) -> bool
-    ensures { λ r. ⌜ r ≡ heldAt (orderOf (now (ws .entry))) (boxesOf (planOf (now (ws .entry)) (now (fs .entry)))) b i ⌝ }
+    ensures { λ r. ⌜ r ≡ heldAt (orderOf (now (ws .entry)))
+        (boxesOf (planOf (now (ws .entry)) (now (fs .entry)))) b i ⌝ }
 {
     bvh_boxes::inside(bvh_boxes::object_box(ws, fs, order_at(ws, i)), b)
 }
 
 // Whether the boxes of the objects at these places of the order lie within b.
 fn holds_all(ws: &Words, fs: &Floats, b: Aabb, start: u32, count: u32) -> bool
-    ensures { λ r. ⌜ r ≡ holdsAll (orderOf (now (ws .entry))) (boxesOf (planOf (now (ws .entry)) (now (fs .entry)))) b start count ⌝ }
+    ensures { λ r. ⌜ r ≡ holdsAll (orderOf (now (ws .entry)))
+        (boxesOf (planOf (now (ws .entry)) (now (fs .entry)))) b start count ⌝ }
 {
     let mut so = true;
     let mut j: u32 = 0;
@@ -145,7 +147,8 @@ fn objects(ws: &Words, fs: &Floats) -> usize
 }
 
 fn leaf_ok(ws: &Words, fs: &Floats, v: Node, start: usize) -> bool
-    ensures { λ r. ⌜ r ≡ leafOk (orderOf (now (ws .entry))) (boxesOf (planOf (now (ws .entry)) (now (fs .entry)))) v start ⌝ }
+    ensures { λ r. ⌜ r ≡ leafOk (orderOf (now (ws .entry)))
+        (boxesOf (planOf (now (ws .entry)) (now (fs .entry)))) v start ⌝ }
 {
     if leaf_words(v, objects(ws, fs), start) {
         // Its own start is `start`.
@@ -164,7 +167,8 @@ fn hull_ok(b: Aabb, outer: Aabb, at: usize) -> bool
 }
 
 fn kind_of(ws: &Words, fs: &Floats, v: Node, outer: Aabb, at: usize, start: usize) -> Kind
-    ensures { λ r. ⌜ r ≡ kindOf (orderOf (now (ws .entry))) (boxesOf (planOf (now (ws .entry)) (now (fs .entry)))) v outer at start ⌝ }
+    ensures { λ r. ⌜ r ≡ kindOf (orderOf (now (ws .entry)))
+        (boxesOf (planOf (now (ws .entry)) (now (fs .entry)))) v outer at start ⌝ }
 {
     if hull_ok(v.hull, outer, at) {
         if v.count == 0 {
@@ -184,8 +188,8 @@ fn kind_of(ws: &Words, fs: &Floats, v: Node, outer: Aabb, at: usize, start: usiz
 // The subtree at a place, whose first leaf must start at `start` and whose box lies within outer, with so many levels
 // left.
 fn check_sub(ws: &Words, fs: &Floats, outer: Aabb, at: usize, start: usize, level: usize) -> Sub
-    ensures { λ r. ⌜ r ≡ checkOf level (nodesOf (now (ws .entry))) (nodesOf (now (fs .entry))) (orderOf (now (ws .entry)))
-        (boxesOf (planOf (now (ws .entry)) (now (fs .entry)))) outer at start ⌝ }
+    ensures { λ r. ⌜ r ≡ checkOf level (nodesOf (now (ws .entry))) (nodesOf (now (fs .entry)))
+        (orderOf (now (ws .entry))) (boxesOf (planOf (now (ws .entry)) (now (fs .entry)))) outer at start ⌝ }
 {
     if level == 0 {
         return Sub::Bad;
@@ -250,8 +254,8 @@ fn whole(s: Sub, n: usize) -> Sub
 
 // The whole tree, with so many levels: how many nodes it has and how many objects.
 pub fn judge(ws: &Words, fs: &Floats, levels: usize) -> Sub
-    ensures { λ r. ⌜ r ≡ judgeOf levels (nodesOf (now (ws .entry))) (nodesOf (now (fs .entry))) (orderOf (now (ws .entry)))
-        (boxesOf (planOf (now (ws .entry)) (now (fs .entry)))) ⌝ }
+    ensures { λ r. ⌜ r ≡ judgeOf levels (nodesOf (now (ws .entry))) (nodesOf (now (fs .entry)))
+        (orderOf (now (ws .entry))) (boxesOf (planOf (now (ws .entry)) (now (fs .entry)))) ⌝ }
 {
     let n = objects(ws, fs);
     if n == 0 {
@@ -275,8 +279,8 @@ pub fn is_good(s: Sub) -> bool
 
 // What an offered tree gets that is not good with 64 levels: 6 for a rule other than depth, 7 for depth alone.
 pub fn refused_number(ws: &Words, fs: &Floats) -> u32
-    ensures { λ r. ⌜ r ≡ refusedNumber (nodesOf (now (ws .entry))) (nodesOf (now (fs .entry))) (orderOf (now (ws .entry)))
-        (boxesOf (planOf (now (ws .entry)) (now (fs .entry)))) ⌝ }
+    ensures { λ r. ⌜ r ≡ refusedNumber (nodesOf (now (ws .entry))) (nodesOf (now (fs .entry)))
+        (orderOf (now (ws .entry))) (boxesOf (planOf (now (ws .entry)) (now (fs .entry)))) ⌝ }
 {
     if is_good(judge(ws, fs, LEVELS_MOST)) {
         return refusals::TOO_DEEP;
@@ -286,8 +290,8 @@ pub fn refused_number(ws: &Words, fs: &Floats) -> u32
 
 // What the standing tree gets: 8 where it breaks a rule.
 pub fn standing_number(ws: &Words, fs: &Floats) -> u32
-    ensures { λ r. ⌜ r ≡ standingNumber (nodesOf (now (ws .entry))) (nodesOf (now (fs .entry))) (orderOf (now (ws .entry)))
-        (boxesOf (planOf (now (ws .entry)) (now (fs .entry)))) ⌝ }
+    ensures { λ r. ⌜ r ≡ standingNumber (nodesOf (now (ws .entry))) (nodesOf (now (fs .entry)))
+        (orderOf (now (ws .entry))) (boxesOf (planOf (now (ws .entry)) (now (fs .entry)))) ⌝ }
 {
     if is_good(judge(ws, fs, LEVELS)) {
         return 0;

@@ -1,4 +1,4 @@
--- How the checker walks: over the nodes in pre-order with a number of levels left, and over the order. Definitions only.
+-- How the checker walks: the nodes in pre-order with a number of levels left, and the order. Definitions only.
 use Prim.Native.Nat.{ℕ, zero, suc, _+_, _-_}
 use mathlib.Core.Bool.{Bool, true, false, cond, _&&_}
 use mathlib.Core.List.{List, [], _∷_}
@@ -37,8 +37,8 @@ leafOk o bs v start = cond (leafWords v (length bs) start) (holdsAll o bs (v .hu
 unfoldable pub hullOk : Aabb → Aabb → ℕ → Bool
 hullOk b outer at = ltb at nodesMost && (finiteBox b && inside b outer)
 
--- what a node is that stands at place `at` under a node whose box is outer: a leaf with the next place and its end, or an
--- interior node with its children
+-- what a node is that stands at place `at` under a node whose box is outer: a leaf with the next place and its end, or
+-- an interior node with its children
 unfoldable pub kindOf : List ℕ → List Aabb → Node → Aabb → ℕ → ℕ → Kind
 kindOf o bs v outer at start =
     cond (hullOk (v .hull) outer at)
@@ -57,8 +57,8 @@ onKind Wrong f = Bad
 onKind (Leaf next end) f = Good next end
 onKind (Inner left right) f = f left right
 
--- the subtree at place `at` whose first leaf must start at `start`, with so many levels left: the first place after it and
--- where its last leaf ends
+-- the subtree at place `at` whose first leaf must start at `start`, with so many levels left: the first place after it
+-- and where its last leaf ends
 unfoldable pub checkOf : ℕ → List ℕ → List Float → List ℕ → List Aabb → Aabb → ℕ → ℕ → Sub
 checkOf zero w f o bs outer at start = Bad
 checkOf (suc level) w f o bs outer at start =
