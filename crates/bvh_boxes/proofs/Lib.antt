@@ -1,4 +1,3 @@
 pub mod Lists
 pub mod Vectors
 pub mod Laws
-pub mod Sound

@@ -1,24 +1,39 @@
--- The list of a plan's boxes read at a place, past its end, and its length. By the laws of lists made of a function. Assumes nothing.
-use Prim.Native.Nat.{ℕ, _+_, _<_, _≤_}
-use mathlib.Core.Path.{_≡_, ap, _∙_}
-use mathlib.Core.List.{List}
-use native.Mathlib.Omega.{arith}
-use lib.ListN.{length}
+-- The boxes of a plan's objects: how many, and of a table's plan the box at a place and past the last, by the laws of lists made of a function. Assumes nothing.
+use Prim.Native.Nat.{ℕ, zero, suc, _+_, _<_, _≤_}
+use mathlib.Core.Path.{_≡_, refl, _∙_, ap}
+use mathlib.Core.List.{List, _∷_, map}
+use lib.ListN.{length, length-map}
 use lib.Ieee.{Float}
-use Rattle.plan.specs.Model.{countObjects}
+use Rattle.sdf.specs.declared.Aabb.{Aabb}
+use Rattle.words.specs.Lists.{listFrom}
 use Rattle.words.proofs.Runs.{getD-from, getD-past, length-from}
+use Rattle.plan.specs.Sections.{objects}
+use Rattle.plan.specs.Plan.{Plan, Piece, pieceAt, piecesFrom, countOf, planOf}
 use Rattle.bvh_boxes.specs.Boxes.{objectBox, boxesOf, boxAt, noBox}
 
-pub box-here : (w : List ℕ) (f : List Float) (o : ℕ) → o < countObjects w → boxAt (boxesOf w f) o ≡ objectBox w f o
+pub boxes-length : (p : Plan) → length (boxesOf p) ≡ length (p .objects)
 unfolding boxesOf
-box-here w f o h =
-    let z : 0 + o ≡ o = omega arith in
-    getD-from (objectBox w f) 0 (countObjects w) o noBox h ∙ ap (objectBox w f) z
+boxes-length p = length-map (p .objects) objectBox
 
-pub box-past : (w : List ℕ) (f : List Float) (o : ℕ) → countObjects w ≤ o → boxAt (boxesOf w f) o ≡ noBox
-unfolding boxesOf
-box-past w f o h = getD-past (objectBox w f) 0 (countObjects w) o noBox h
+map-from : (g : ℕ → Piece) (a n : ℕ) → map objectBox (listFrom g a n) ≡ listFrom (λ i. objectBox (g i)) a n
+unfolding listFrom
+map-from g a zero = refl
+map-from g a (suc n) = ap (λ (l : List Aabb). objectBox (g a) ∷ l) (map-from g (suc a) n)
 
-pub box-count : (w : List ℕ) (f : List Float) → length (boxesOf w f) ≡ countObjects w
-unfolding boxesOf
-box-count w f = length-from (objectBox w f) 0 (countObjects w)
+-- the box of the piece in row r
+abbrev pub rowBox : List ℕ → List Float → ℕ → Aabb
+rowBox w f r = objectBox (pieceAt w f r)
+
+module _ (w : List ℕ) (f : List Float) where
+  pub boxes-rows : boxesOf (planOf w f) ≡ listFrom (rowBox w f) (objects .first) (countOf objects w)
+  unfolding boxesOf planOf piecesFrom
+  boxes-rows = map-from (pieceAt w f) (objects .first) (countOf objects w)
+
+  pub box-count : length (boxesOf (planOf w f)) ≡ countOf objects w
+  box-count = rw boxes-rows (length-from (rowBox w f) (objects .first) (countOf objects w))
+
+  pub box-here : (o : ℕ) → o < countOf objects w → boxAt (boxesOf (planOf w f)) o ≡ rowBox w f (objects .first + o)
+  box-here o h = rw boxes-rows (getD-from (rowBox w f) (objects .first) (countOf objects w) o noBox h)
+
+  pub box-past : (o : ℕ) → countOf objects w ≤ o → boxAt (boxesOf (planOf w f)) o ≡ noBox
+  box-past o h = rw boxes-rows (getD-past (rowBox w f) (objects .first) (countOf objects w) o noBox h)

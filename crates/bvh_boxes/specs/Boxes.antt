@@ -1,16 +1,17 @@
--- Boxes in order: which corners are finite, which box lies within which, the least box around many; and the boxes of a plan's objects. Definitions only.
-use Prim.Native.Nat.{ℕ, _+_}
+-- Boxes in order: which corners are finite, which box lies within which, the least box around many; and the boxes of a
+-- plan's objects. Definitions only.
+use Prim.Native.Nat.{ℕ}
 use mathlib.Core.Bool.{Bool, _&&_}
-use mathlib.Core.List.{List, [], _∷_}
+use mathlib.Core.List.{List, [], _∷_, map}
 use lib.ListN.{getD}
-use lib.Ieee.{Float, le, neg}
+use lib.Ieee.{le, neg}
 use Rattle.vec.specs.declared.Vec3.{Vec3}
 use Rattle.vec.specs.Vec.{vsplat, vmin, vmax}
 use Rattle.sdf.specs.declared.Aabb.{Aabb}
 use Rattle.sdf.specs.Boxes.{boxOf}
-use Rattle.words.specs.Lists.{listFrom}
 use Rattle.refusals.specs.Ranges.{greatest, within}
-use Rattle.plan.specs.Model.{noVec, objectRow, countObjects, headAt}
+use Rattle.plan.specs.Records.{noVec}
+use Rattle.plan.specs.Plan.{Piece, Plan}
 
 -- "All corners are finite"
 unfoldable pub finiteBox : Aabb → Bool
@@ -35,11 +36,11 @@ hullFrom a [] = a
 hullFrom a (b ∷ bs) = hullFrom (merge a b) bs
 
 -- ---- the boxes of a plan's objects, each widened by its blend
-unfoldable pub objectBox : List ℕ → List Float → ℕ → Aabb
-objectBox w f o = boxOf (headAt w f (objectRow + o) .shape) (headAt w f (objectRow + o) .blend)
+unfoldable pub objectBox : Piece → Aabb
+objectBox o = boxOf (o .head .shape) (o .head .blend)
 
-unfoldable pub boxesOf : List ℕ → List Float → List Aabb
-boxesOf w f = listFrom (objectBox w f) 0 (countObjects w)
+unfoldable pub boxesOf : Plan → List Aabb
+boxesOf p = map objectBox (p .objects)
 
 -- what stands for the box of an object that is not there: it lies within no box
 abbrev pub noBox : Aabb

@@ -1,5 +1,6 @@
 // Boxes in order, and the boxes of a plan's objects.
 ghost use mathlib.Core.Path.{_≡_};
+ghost use Rattle.plan.specs.Plan.{planOf};
 ghost use Rattle.bvh_boxes.specs.Boxes.{finiteBox, atMost, inside, nowhere, merge, noBox, boxAt, boxesOf};
 use sdf::Aabb;
 use vec::Vec3;
@@ -8,8 +9,8 @@ pub fn finite(b: Aabb) -> bool
     ensures { λ r. ⌜ r ≡ finiteBox b ⌝ }
 {
     refusals::both(
-        refusals::within(b.lo, 3.4028235e38),
-        refusals::within(b.hi, 3.4028235e38),
+        refusals::within(b.lo, refusals::GREATEST),
+        refusals::within(b.hi, refusals::GREATEST),
     )
 }
 
@@ -31,8 +32,8 @@ pub fn nowhere() -> Aabb
     ensures { λ r. ⌜ r ≡ nowhere ⌝ }
 {
     Aabb {
-        lo: Vec3::splat(3.4028235e38),
-        hi: Vec3::splat(-3.4028235e38),
+        lo: Vec3::splat(refusals::GREATEST),
+        hi: Vec3::splat(-refusals::GREATEST),
     }
 }
 
@@ -56,11 +57,11 @@ pub fn no_box() -> Aabb
 }
 
 // The box of object o, widened by its blend; past the last object what lies within no box.
-pub fn object_box(ws: &[u32; 22288], fs: &[f32; 22288], o: u32) -> Aabb
-    ensures { λ r. ⌜ r ≡ boxAt (boxesOf (now (ws .entry)) (now (fs .entry))) o ⌝ }
+pub fn object_box(ws: &plan::Words, fs: &plan::Floats, o: u32) -> Aabb
+    ensures { λ r. ⌜ r ≡ boxAt (boxesOf (planOf (now (ws .entry)) (now (fs .entry)))) o ⌝ }
 {
-    if o < ws[3] {
-        let h = plan::head_at(ws, fs, 113 + o as usize);
+    if o < ws[plan::COUNT_OBJECTS] {
+        let h = plan::head_at(ws, fs, plan::OBJECT_ROW as usize + o as usize);
         let shape = h.shape;
         return shape.object_box(h.blend);
     }

@@ -19,7 +19,7 @@ use Rattle.bvh_rules.specs.declared.Sub.{Sub}
 use Rattle.bvh_rules.specs.declared.Sub.the-variants.{Bad, Good}
 use Rattle.bvh_rules.specs.Nodes.{nodeAt, innerNode, leafNode}
 use Rattle.bvh_rules.specs.Rules.{Tree, leaf, node, hull, size, weight, depth, Stands, Boxed}
-use Rattle.bvh_rules.specs.Check.{kindOf, then, onKind, checkOf}
+use Rattle.bvh_rules.specs.Inside.Steps.{kindOf, then, onKind, checkOf}
 use Rattle.bvh_rules.proofs.Level.{kind-leaf, kind-inner}
 use Rattle.bvh_rules.proofs.Trees.{stands-below}
 use Rattle.bvh_rules.proofs.Tests.{hull-to, hull-from, leaf-from, kind-leaf-to, kind-inner-to}

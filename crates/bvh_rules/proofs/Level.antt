@@ -17,7 +17,8 @@ use Rattle.bvh_rules.specs.declared.Kind.the-variants.{Wrong, Leaf, Inne
 use Rattle.bvh_rules.specs.declared.Sub.{Sub}
 use Rattle.bvh_rules.specs.declared.Sub.the-variants.{Bad, Good}
 use Rattle.bvh_rules.specs.Nodes.{nodeAt}
-use Rattle.bvh_rules.specs.Check.{holdsAll, leafWords, leafOk, hullOk, kindOf, then, onKind, checkOf, orderOk, wholeOf, judgeOf}
+use Rattle.bvh_rules.specs.Inside.Steps.{holdsAll, leafWords, leafOk, hullOk, kindOf, then, onKind, checkOf, orderOk, wholeOf}
+use Rattle.bvh_rules.specs.Check.{judgeOf}
 
 -- both of a test's parts
 pub cond-true : (a b : Bool) → cond a b false ≡ true → (a ≡ true) × (b ≡ true)

@@ -10,8 +10,8 @@ use lib.Dec.{ltb}
 use lib.ListN.{length, getD, set, replicate, length-set, length-replicate, getD-replicate}
 use lib.Seq.{getD-set-same, getD-set-other}
 use borrow.Author.Tests.{lt-ltb, ltb-true}
-use Rattle.plan.specs.Model.{wordOf}
-use Rattle.bvh_rules.specs.Check.{marksOf, orderOk}
+use Rattle.plan.specs.Records.{wordOf}
+use Rattle.bvh_rules.specs.Inside.Steps.{marksOf, orderOk}
 use Rattle.bvh_rules.specs.Rules.{Once}
 use Rattle.bvh_rules.proofs.Lists.{order-few}
 use Rattle.bvh_rules.proofs.Level.{cond-true}

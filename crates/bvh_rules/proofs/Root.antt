@@ -17,7 +17,8 @@ use Rattle.bvh_rules.specs.declared.Sub.{Sub}
 use Rattle.bvh_rules.specs.declared.Sub.the-variants.{Bad, Good}
 use Rattle.bvh_rules.specs.Nodes.{nodeAt}
 use Rattle.bvh_rules.specs.Rules.{Tree, leaf, node, hull, size, depth, Stands, Boxed, Once, Holds}
-use Rattle.bvh_rules.specs.Check.{checkOf, orderOk, wholeOf, judgeOf, isGood}
+use Rattle.bvh_rules.specs.Inside.Steps.{checkOf, orderOk, wholeOf}
+use Rattle.bvh_rules.specs.Check.{judgeOf, isGood}
 use Rattle.bvh_rules.proofs.Level.{judge-order, judge-whole}
 use Rattle.bvh_rules.proofs.Marks.{order-exact}
 use Rattle.bvh_boxes.proofs.Laws.{inside-refl}

@@ -12,13 +12,13 @@ use lib.Dec.{T, eqb, ltb, leb}
 use lib.ListN.{length}
 use borrow.Author.Tests.{leb-true, eqb-true, eqb-false, lt-ltb, le-leb, eq-eqb}
 use Rattle.sdf.specs.declared.Aabb.{Aabb}
-use Rattle.plan.specs.Model.{wordOf}
+use Rattle.plan.specs.Records.{wordOf}
 use Rattle.bvh_boxes.specs.Boxes.{finiteBox, inside, boxAt}
 use Rattle.bvh_rules.specs.declared.Node.{Node}
 use Rattle.bvh_rules.specs.declared.Kind.{Kind}
 use Rattle.bvh_rules.specs.declared.Kind.the-variants.{Wrong, Leaf, Inner}
 use Rattle.bvh_rules.specs.Nodes.{innerNode, leafNode}
-use Rattle.bvh_rules.specs.Check.{heldAt, holdsAll, leafWords, leafOk, hullOk, kindOf}
+use Rattle.bvh_rules.specs.Inside.Steps.{heldAt, holdsAll, leafWords, leafOk, hullOk, kindOf}
 use Rattle.bvh_rules.proofs.Lists.{holds-none, holds-more}
 use Rattle.bvh_rules.proofs.Level.{cond-true}
 

@@ -40,7 +40,7 @@ module _ (w : List ℕ) (f : List Float) where
     where
       go : Dec (511 ≤ at) → at < 511
       go (yes k) =
-          let z = words-past w f lw at k in
+          let z = words-past w f (omega arith) at k in
           absurd (omega (arith, ap (λ (u : Node). u .count) e, ap (λ (u : Node). u .right) e, z .0, z .1))
       go (no k) = omega arith
 

@@ -1,11 +1,30 @@
--- "A node is lo x y z, hi x y z, start, count, right": what the words of the nodes table stand for, held as whole numbers (w) and as floats (f) at the
--- same places. Definitions only.
+-- "A node is lo x y z, hi x y z, start, count, right": what the words of the nodes stand for, held as whole numbers (w)
+-- and as floats (f) at the same places, and where nodes and order lie in a call's table. Definitions only.
 use Prim.Native.Nat.{ℕ, _+_, _*_}
 use mathlib.Core.List.{List}
+use lib.ListN.{take, drop}
 use lib.Ieee.{Float}
 use Rattle.sdf.specs.declared.Aabb.{Aabb}
-use Rattle.plan.specs.Model.{wordOf, floatOf}
+use Rattle.plan.specs.Sections.{nodesFirst, orderFirst}
+use Rattle.plan.specs.Records.{wordOf, floatOf}
 use Rattle.bvh_rules.specs.declared.Node.{Node}
+
+-- ---- how many nodes there may be, their words, and the places of the order
+abbrev pub nodesMost : ℕ
+nodesMost = 511
+
+abbrev pub nodesWords : ℕ
+nodesWords = 4599
+
+abbrev pub orderPlaces : ℕ
+orderPlaces = 256
+
+-- ---- the nodes and the order of a call's table
+unfoldable pub nodesOf : {A : Type 0} → List A → List A
+nodesOf t = take nodesWords (drop nodesFirst t)
+
+unfoldable pub orderOf : {A : Type 0} → List A → List A
+orderOf t = take orderPlaces (drop orderFirst t)
 
 unfoldable pub nodeAt : List ℕ → List Float → ℕ → Node
 nodeAt w f at =

@@ -7,7 +7,7 @@ use lib.ListN.{length}
 use lib.Dec.{T}
 use lib.Ieee.{Float}
 use Rattle.sdf.specs.declared.Aabb.{Aabb}
-use Rattle.plan.specs.Model.{wordOf}
+use Rattle.plan.specs.Records.{wordOf}
 use Rattle.bvh_boxes.specs.Boxes.{finiteBox, inside, boxAt}
 use Rattle.bvh_rules.specs.Nodes.{nodeAt, innerNode, leafNode}
 
@@ -34,12 +34,14 @@ abbrev pub depth : Tree → ℕ
 depth (leaf b c) = 0
 depth (node b l r) = 1 + max (depth l) (depth r)
 
--- "Nodes lie in pre-order: an interior node has count 0, start 0, its left child at the next place and `right` at the first place after the left subtree.
--- A leaf has count above 0 and right 0, and its start is where the leaf before it ended." The tree stands at place `at`, its first leaf starts at s.
+-- "Nodes lie in pre-order: an interior node has count 0, start 0, its left child at the next place and `right` at the
+-- first place after the left subtree. A leaf has count above 0 and right 0, and its start is where the leaf before it
+-- ended." The tree stands at place `at`, its first leaf starts at s.
 abbrev pub Stands : List ℕ → List Float → ℕ → ℕ → Tree → Type 0
 Stands w f at s (leaf b c) = (nodeAt w f at ≡ leafNode b s c) × (0 < c)
 Stands w f at s (node b l r) =
-    (nodeAt w f at ≡ innerNode b (at + 1 + size l)) × Stands w f (at + 1) s l × Stands w f (at + 1 + size l) (s + weight l) r
+    (nodeAt w f at ≡ innerNode b (at + 1 + size l))
+    × Stands w f (at + 1) s l × Stands w f (at + 1 + size l) (s + weight l) r
 
 -- "All corners are finite; each child's box lies within its parent's, each object's box within its leaf's."
 abbrev pub Boxed : List ℕ → List Aabb → ℕ → Tree → Type 0

@@ -1,13 +1,36 @@
-// The tree of boxes in lent words: its nodes, and the checker of document 01's tree rules.
+// The tree of boxes in a call's table: its nodes, and the checker of document 01's tree rules.
 ghost use mathlib.Core.Path.{_≡_};
 ghost use Prim.Native.Nat.{_-_};
 ghost use lib.ListN.{length, getD};
+ghost use Rattle.plan.specs.Sections.{objects};
+ghost use Rattle.plan.specs.Records.{wordOf};
+ghost use Rattle.plan.specs.Plan.{countOf, planOf};
 ghost use Rattle.bvh_boxes.specs.Boxes.{boxesOf};
-ghost use Rattle.plan.specs.Model.{wordOf, countObjects};
-ghost use Rattle.bvh_rules.specs.Nodes.{nodeAt};
-ghost use Rattle.bvh_rules.specs.Check.{heldAt, holdsAll, leafWords, leafOk, hullOk, kindOf, checkOf, orderOk, wholeOf, judgeOf, isGood, refusedNumber, standingNumber};
+ghost use Rattle.bvh_rules.specs.Nodes.{nodesOf, orderOf, nodeAt};
+ghost use Rattle.bvh_rules.specs.Inside.Steps.{heldAt, holdsAll, leafWords, leafOk, hullOk, kindOf};
+ghost use Rattle.bvh_rules.specs.Inside.Steps.{checkOf, orderOk, wholeOf};
+ghost use Rattle.bvh_rules.specs.Check.{judgeOf, isGood, refusedNumber, standingNumber};
+use plan::Floats;
+use plan::Words;
 use sdf::Aabb;
 use vec::Vec3;
+
+// The nodes and the order of a tree, apart from the table of a call.
+pub type Nodes = [u32; 4599];
+
+pub type Order = [u32; 256];
+
+// A node's words, how many nodes there may be, and how many places the order has.
+pub const NODE_WORDS: usize = 9;
+
+pub const NODES_MOST: usize = 511;
+
+pub const PLACES: usize = 256;
+
+// The levels that a tree may have, and those that no tree of 256 objects exceeds.
+pub const LEVELS: usize = 64;
+
+pub const LEVELS_MOST: usize = 256;
 
 pub struct Node {
     pub hull: Aabb,
@@ -30,75 +53,63 @@ pub enum Sub {
 }
 
 // The node at a place; past the last place what no words make.
-pub fn node_at(nw: &[u32; 4599], nf: &[f32; 4599], at: usize) -> Node
-    ensures { λ r. ⌜ r ≡ nodeAt (now (nw .entry)) (now (nf .entry)) at ⌝ }
+pub fn node_at(ws: &Words, fs: &Floats, at: usize) -> Node
+    ensures { λ r. ⌜ r ≡ nodeAt (nodesOf (now (ws .entry))) (nodesOf (now (fs .entry))) at ⌝ }
 {
-    if at < 511 {
-        let i = 9 * at;
+    if at < NODES_MOST {
+        let i = plan::NODES + NODE_WORDS * at;
         return Node {
             hull: Aabb {
                 lo: Vec3 {
-                    x: nf[i],
-                    y: nf[i + 1],
-                    z: nf[i + 2],
+                    x: fs[i],
+                    y: fs[i + 1],
+                    z: fs[i + 2],
                 },
                 hi: Vec3 {
-                    x: nf[i + 3],
-                    y: nf[i + 4],
-                    z: nf[i + 5],
+                    x: fs[i + 3],
+                    y: fs[i + 4],
+                    z: fs[i + 5],
                 },
             },
-            start: nw[i + 6],
-            count: nw[i + 7],
-            right: nw[i + 8],
+            start: ws[i + 6],
+            count: ws[i + 7],
+            right: ws[i + 8],
         };
     }
-    // Only as a slice does a table tell the proof its length, which every place here lies past.
-    let _words: &[u32] = nw;
-    let _floats: &[f32] = nf;
     Node {
-        hull: Aabb {
-            lo: Vec3::splat(0.0 / 0.0),
-            hi: Vec3::splat(0.0 / 0.0),
-        },
+        hull: bvh_boxes::no_box(),
         start: 0,
         count: 0,
         right: 0,
     }
 }
 
-// The object at a place of the order table, 0 past the last place.
-pub fn order_at(ow: &[u32; 256], i: usize) -> u32
-    ensures { λ r. ⌜ r ≡ wordOf (now (ow .entry)) i ⌝ }
+// The object at a place of the order, 0 past the last place.
+pub fn order_at(ws: &Words, i: usize) -> u32
+    ensures { λ r. ⌜ r ≡ wordOf (orderOf (now (ws .entry))) i ⌝ }
 {
-    if i < 256 {
-        return ow[i];
+    if i < PLACES {
+        return ws[plan::ORDER + i];
     }
-    let _words: &[u32] = ow;
     0
 }
 
-fn held(ow: &[u32; 256], ws: &[u32; 22288], fs: &[f32; 22288], b: Aabb, i: usize) -> bool
-    ensures { λ r. ⌜ r ≡ heldAt (now (ow .entry)) (boxesOf (now (ws .entry)) (now (fs .entry))) b i ⌝ }
+fn held(ws: &Words, fs: &Floats, b: Aabb, i: usize) -> bool
+    ensures { λ r. ⌜ r ≡ heldAt (orderOf (now (ws .entry)))
+        (boxesOf (planOf (now (ws .entry)) (now (fs .entry)))) b i ⌝ }
 {
-    bvh_boxes::inside(bvh_boxes::object_box(ws, fs, order_at(ow, i)), b)
+    bvh_boxes::inside(bvh_boxes::object_box(ws, fs, order_at(ws, i)), b)
 }
 
 // Whether the boxes of the objects at these places of the order lie within b.
-fn holds_all(
-    ow: &[u32; 256],
-    ws: &[u32; 22288],
-    fs: &[f32; 22288],
-    b: Aabb,
-    start: u32,
-    count: u32,
-) -> bool
-    ensures { λ r. ⌜ r ≡ holdsAll (now (ow .entry)) (boxesOf (now (ws .entry)) (now (fs .entry))) b start count ⌝ }
+fn holds_all(ws: &Words, fs: &Floats, b: Aabb, start: u32, count: u32) -> bool
+    ensures { λ r. ⌜ r ≡ holdsAll (orderOf (now (ws .entry)))
+        (boxesOf (planOf (now (ws .entry)) (now (fs .entry)))) b start count ⌝ }
 {
     let mut so = true;
     let mut j: u32 = 0;
     while j < count {
-        so = refusals::both(so, held(ow, ws, fs, b, start as usize + j as usize));
+        so = refusals::both(so, held(ws, fs, b, start as usize + j as usize));
         j += 1;
     }
     so
@@ -123,24 +134,25 @@ fn leaf_words(v: Node, n: usize, start: usize) -> bool
 }
 
 // As a call's result the word is known to fit, so it may be cast.
-pub fn object_count(ws: &[u32; 22288]) -> u32
-    ensures { λ r. ⌜ r ≡ countObjects (now (ws .entry)) ⌝ }
+pub fn object_count(ws: &Words) -> u32
+    ensures { λ r. ⌜ r ≡ countOf objects (now (ws .entry)) ⌝ }
 {
-    ws[3]
+    ws[plan::COUNT_OBJECTS]
 }
 
-fn objects(ws: &[u32; 22288], fs: &[f32; 22288]) -> usize
-    ensures { λ r. ⌜ r ≡ length (boxesOf (now (ws .entry)) (now (fs .entry))) ⌝ }
+fn objects(ws: &Words, fs: &Floats) -> usize
+    ensures { λ r. ⌜ r ≡ length (boxesOf (planOf (now (ws .entry)) (now (fs .entry)))) ⌝ }
 {
     object_count(ws) as usize
 }
 
-fn leaf_ok(ow: &[u32; 256], ws: &[u32; 22288], fs: &[f32; 22288], v: Node, start: usize) -> bool
-    ensures { λ r. ⌜ r ≡ leafOk (now (ow .entry)) (boxesOf (now (ws .entry)) (now (fs .entry))) v start ⌝ }
+fn leaf_ok(ws: &Words, fs: &Floats, v: Node, start: usize) -> bool
+    ensures { λ r. ⌜ r ≡ leafOk (orderOf (now (ws .entry)))
+        (boxesOf (planOf (now (ws .entry)) (now (fs .entry)))) v start ⌝ }
 {
     if leaf_words(v, objects(ws, fs), start) {
         // Its own start is `start`.
-        return holds_all(ow, ws, fs, v.hull, v.start, v.count);
+        return holds_all(ws, fs, v.hull, v.start, v.count);
     }
     false
 }
@@ -149,21 +161,14 @@ fn hull_ok(b: Aabb, outer: Aabb, at: usize) -> bool
     ensures { λ r. ⌜ r ≡ hullOk b outer at ⌝ }
 {
     refusals::both(
-        at < 511,
+        at < NODES_MOST,
         refusals::both(bvh_boxes::finite(b), bvh_boxes::inside(b, outer)),
     )
 }
 
-fn kind_of(
-    ow: &[u32; 256],
-    ws: &[u32; 22288],
-    fs: &[f32; 22288],
-    v: Node,
-    outer: Aabb,
-    at: usize,
-    start: usize,
-) -> Kind
-    ensures { λ r. ⌜ r ≡ kindOf (now (ow .entry)) (boxesOf (now (ws .entry)) (now (fs .entry))) v outer at start ⌝ }
+fn kind_of(ws: &Words, fs: &Floats, v: Node, outer: Aabb, at: usize, start: usize) -> Kind
+    ensures { λ r. ⌜ r ≡ kindOf (orderOf (now (ws .entry)))
+        (boxesOf (planOf (now (ws .entry)) (now (fs .entry)))) v outer at start ⌝ }
 {
     if hull_ok(v.hull, outer, at) {
         if v.count == 0 {
@@ -172,7 +177,7 @@ fn kind_of(
             }
             return Kind::Wrong;
         }
-        if leaf_ok(ow, ws, fs, v, start) {
+        if leaf_ok(ws, fs, v, start) {
             return Kind::Leaf(at + 1, start + v.count as usize);
         }
         return Kind::Wrong;
@@ -180,35 +185,27 @@ fn kind_of(
     Kind::Wrong
 }
 
-// The subtree at a place, whose first leaf must start at `start` and whose box lies within outer, with so many levels left.
-pub fn check_sub(
-    nw: &[u32; 4599],
-    nf: &[f32; 4599],
-    ow: &[u32; 256],
-    ws: &[u32; 22288],
-    fs: &[f32; 22288],
-    outer: Aabb,
-    at: usize,
-    start: usize,
-    level: usize,
-) -> Sub
-    ensures { λ r. ⌜ r ≡ checkOf level (now (nw .entry)) (now (nf .entry)) (now (ow .entry)) (boxesOf (now (ws .entry)) (now (fs .entry))) outer at start ⌝ }
+// The subtree at a place, whose first leaf must start at `start` and whose box lies within outer, with so many levels
+// left.
+fn check_sub(ws: &Words, fs: &Floats, outer: Aabb, at: usize, start: usize, level: usize) -> Sub
+    ensures { λ r. ⌜ r ≡ checkOf level (nodesOf (now (ws .entry))) (nodesOf (now (fs .entry)))
+        (orderOf (now (ws .entry))) (boxesOf (planOf (now (ws .entry)) (now (fs .entry)))) outer at start ⌝ }
 {
     if level == 0 {
         return Sub::Bad;
     }
-    let v = node_at(nw, nf, at);
-    let k = kind_of(ow, ws, fs, v, outer, at, start);
+    let v = node_at(ws, fs, at);
+    let k = kind_of(ws, fs, v, outer, at, start);
     match k {
         Kind::Wrong => Sub::Bad,
         Kind::Leaf(next, end) => Sub::Good(next, end),
         Kind::Inner(left, right) => {
-            let part = check_sub(nw, nf, ow, ws, fs, v.hull, left, start, level - 1);
+            let part = check_sub(ws, fs, v.hull, left, start, level - 1);
             match part {
                 Sub::Bad => Sub::Bad,
                 Sub::Good(next, end) => {
                     if right == next {
-                        check_sub(nw, nf, ow, ws, fs, v.hull, next, end, level - 1)
+                        check_sub(ws, fs, v.hull, next, end, level - 1)
                     } else {
                         Sub::Bad
                     }
@@ -219,16 +216,16 @@ pub fn check_sub(
 }
 
 // Whether the order table holds each of n objects once.
-pub fn check_order(ow: &[u32; 256], n: usize) -> bool
-    ensures { λ r. ⌜ r ≡ orderOk (now (ow .entry)) n ⌝ }
+fn check_order(ws: &Words, n: usize) -> bool
+    ensures { λ r. ⌜ r ≡ orderOk (orderOf (now (ws .entry))) n ⌝ }
 {
-    if n > 256 {
+    if n > PLACES {
         return false;
     }
-    let mut seen = [false; 256];
+    let mut seen = [false; PLACES];
     let mut i: usize = 0;
     while i < n {
-        let x = order_at(ow, i) as usize;
+        let x = order_at(ws, i) as usize;
         if x >= n {
             return false;
         }
@@ -256,23 +253,17 @@ fn whole(s: Sub, n: usize) -> Sub
 }
 
 // The whole tree, with so many levels: how many nodes it has and how many objects.
-pub fn judge(
-    nw: &[u32; 4599],
-    nf: &[f32; 4599],
-    ow: &[u32; 256],
-    ws: &[u32; 22288],
-    fs: &[f32; 22288],
-    levels: usize,
-) -> Sub
-    ensures { λ r. ⌜ r ≡ judgeOf levels (now (nw .entry)) (now (nf .entry)) (now (ow .entry)) (boxesOf (now (ws .entry)) (now (fs .entry))) ⌝ }
+pub fn judge(ws: &Words, fs: &Floats, levels: usize) -> Sub
+    ensures { λ r. ⌜ r ≡ judgeOf levels (nodesOf (now (ws .entry))) (nodesOf (now (fs .entry)))
+        (orderOf (now (ws .entry))) (boxesOf (planOf (now (ws .entry)) (now (fs .entry)))) ⌝ }
 {
     let n = objects(ws, fs);
     if n == 0 {
         return Sub::Good(0, 0);
     }
-    if check_order(ow, n) {
-        let top = node_at(nw, nf, 0);
-        return whole(check_sub(nw, nf, ow, ws, fs, top.hull, 0, 0, levels), n);
+    if check_order(ws, n) {
+        let top = node_at(ws, fs, 0);
+        return whole(check_sub(ws, fs, top.hull, 0, 0, levels), n);
     }
     Sub::Bad
 }
@@ -287,33 +278,23 @@ pub fn is_good(s: Sub) -> bool
 }
 
 // What an offered tree gets that is not good with 64 levels: 6 for a rule other than depth, 7 for depth alone.
-pub fn refused_number(
-    nw: &[u32; 4599],
-    nf: &[f32; 4599],
-    ow: &[u32; 256],
-    ws: &[u32; 22288],
-    fs: &[f32; 22288],
-) -> u32
-    ensures { λ r. ⌜ r ≡ refusedNumber (now (nw .entry)) (now (nf .entry)) (now (ow .entry)) (boxesOf (now (ws .entry)) (now (fs .entry))) ⌝ }
+pub fn refused_number(ws: &Words, fs: &Floats) -> u32
+    ensures { λ r. ⌜ r ≡ refusedNumber (nodesOf (now (ws .entry))) (nodesOf (now (fs .entry)))
+        (orderOf (now (ws .entry))) (boxesOf (planOf (now (ws .entry)) (now (fs .entry)))) ⌝ }
 {
-    if is_good(judge(nw, nf, ow, ws, fs, 256)) {
-        return 7;
+    if is_good(judge(ws, fs, LEVELS_MOST)) {
+        return refusals::TOO_DEEP;
     }
-    6
+    refusals::BAD_TREE
 }
 
 // What the standing tree gets: 8 where it breaks a rule.
-pub fn standing_number(
-    nw: &[u32; 4599],
-    nf: &[f32; 4599],
-    ow: &[u32; 256],
-    ws: &[u32; 22288],
-    fs: &[f32; 22288],
-) -> u32
-    ensures { λ r. ⌜ r ≡ standingNumber (now (nw .entry)) (now (nf .entry)) (now (ow .entry)) (boxesOf (now (ws .entry)) (now (fs .entry))) ⌝ }
+pub fn standing_number(ws: &Words, fs: &Floats) -> u32
+    ensures { λ r. ⌜ r ≡ standingNumber (nodesOf (now (ws .entry))) (nodesOf (now (fs .entry)))
+        (orderOf (now (ws .entry))) (boxesOf (planOf (now (ws .entry)) (now (fs .entry)))) ⌝ }
 {
-    if is_good(judge(nw, nf, ow, ws, fs, 64)) {
+    if is_good(judge(ws, fs, LEVELS)) {
         return 0;
     }
-    8
+    refusals::NO_TREE
 }

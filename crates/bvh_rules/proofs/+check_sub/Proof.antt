@@ -14,15 +14,15 @@ use Rattle.bvh_rules.proofs.node_at.Reads as node-at-reads
 use Rattle.bvh_rules.proofs.+check_sub.{statement}
 use Rattle.bvh_rules.proofs.+check_sub.Tie.{close}
 
-abbrev μ-check-sub : Measures 5 check-sub-kinds.ps ℕ
-μ-check-sub κs a = a .1 .1 .1 .1 .1 .1 .1 .1 .0
+abbrev μ-check-sub : Measures 2 check-sub-kinds.ps ℕ
+μ-check-sub κs a = a .1 .1 .1 .1 .1 .0
 
-abbrev check-sub-at : ℕ → In 5 check-sub-kinds.ps
-check-sub-at t = and 5 check-sub-kinds.ps (is 5 check-sub-kinds.ps μ-check-sub t) check-sub.Pre
+abbrev check-sub-at : ℕ → In 2 check-sub-kinds.ps
+check-sub-at t = and 2 check-sub-kinds.ps (is 2 check-sub-kinds.ps μ-check-sub t) check-sub.Pre
 
-abbrev check-sub-below : ℕ → In 5 check-sub-kinds.ps
+abbrev check-sub-below : ℕ → In 2 check-sub-kinds.ps
 check-sub-below t =
-    and 5 check-sub-kinds.ps (falls 5 check-sub-kinds.ps _<_ μ-check-sub t) check-sub.Pre
+    and 2 check-sub-kinds.ps (falls 2 check-sub-kinds.ps _<_ μ-check-sub t) check-sub.Pre
 
 abbrev R : ℕ → check-sub-lts.Claims
 R t = (node-at-reads.Asked, node-at-reads.Learnt, kind-of-reads.Asked, kind-of-reads.Learnt, check-sub-below t, check-sub.Post)

@@ -3,16 +3,17 @@ use borrow.Author.Needs.{needs}
 use Prim.Native.Nat.{_≤_, _-_}
 use mathlib.Core.Path.{_≡_, sym, _∙_}
 use native.Mathlib.Omega.{arith}
-use Rattle.bvh_rules.specs.Check.{marksOf, orderOk}
+use Rattle.bvh_rules.specs.Nodes.{orderOf}
+use Rattle.bvh_rules.specs.Inside.Steps.{marksOf, orderOk}
 use Rattle.bvh_rules.proofs.Lists.{marks-end, marks-high, marks-twice, marks-step, order-few, order-many}
 use Rattle.bvh_rules.proofs.check_order.Statement.{statement}
 use Rattle.bvh_rules.proofs.check_order.Tie as tie
 
 abbrev Inv-loop : tie.InvT-loop
-Inv-loop ow n seen₀ i₀ seen i = (i ≤ n) × (n ≤ 256) × (marksOf ow n (n - i) i seen ≡ orderOk ow n)
+Inv-loop ws n seen₀ i₀ seen i = (i ≤ n) × (n ≤ 256) × (marksOf (orderOf ws) n (n - i) i seen ≡ orderOk (orderOf ws) n)
 
 abbrev μ-loop : tie.MeasureT-loop
-μ-loop ow n seen₀ i₀ seen i = n - i
+μ-loop ws n seen₀ i₀ seen i = n - i
 
 returns : tie.Need-returns Inv-loop μ-loop
 returns c = order-many _ _ (c .if1 .taken)

@@ -1,5 +1,5 @@
 -- `bvh_rules::held` meets its contract, by those of its calls. Assumes nothing.
-use Rattle.bvh_rules.specs.Check.{heldAt}
+use Rattle.bvh_rules.specs.Inside.Steps.{heldAt}
 use borrow.Author.Needs.{needs}
 use Rattle.bvh_rules.proofs.held.Statement.{statement}
 use Rattle.bvh_rules.proofs.held.Tie as tie

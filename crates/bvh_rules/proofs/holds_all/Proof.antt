@@ -3,20 +3,22 @@ use borrow.Author.Needs.{needs}
 use Prim.Native.Nat.{_≤_, _-_}
 use mathlib.Core.Path.{_≡_}
 use native.Mathlib.Omega.{arith}
+use Rattle.plan.specs.Plan.{planOf}
 use Rattle.bvh_boxes.specs.Boxes.{boxesOf}
-use Rattle.bvh_rules.specs.Check.{holdsAll}
+use Rattle.bvh_rules.specs.Nodes.{orderOf}
+use Rattle.bvh_rules.specs.Inside.Steps.{holdsAll}
 use Rattle.bvh_rules.proofs.Lists.{holds-none, holds-more}
 use Rattle.bvh_rules.proofs.holds_all.Statement.{statement}
 use Rattle.bvh_rules.proofs.holds_all.Tie as tie
 
 abbrev Inv-loop : tie.InvT-loop
-Inv-loop ow ws fs b start count so₀ j₀ so j = (j ≤ count) × (so ≡ holdsAll ow (boxesOf ws fs) b start j)
+Inv-loop ws fs b start count so₀ j₀ so j = (j ≤ count) × (so ≡ holdsAll (orderOf ws) (boxesOf (planOf ws fs)) b start j)
 
 abbrev μ-loop : tie.MeasureT-loop
-μ-loop ow ws fs b start count so₀ j₀ so j = count - j
+μ-loop ws fs b start count so₀ j₀ so j = count - j
 
 loop-holds : tie.Need-loop-holds Inv-loop μ-loop
-loop-holds c = let a = c .args in (search needs, holds-none (a .ow .now) (boxesOf (a .ws .now) (a .fs .now)) (a .b) (a .start))
+loop-holds c = let a = c .args in (search needs, holds-none (orderOf (a .ws .now)) (boxesOf (planOf (a .ws .now) (a .fs .now))) (a .b) (a .start))
 
 loop-again : tie.Need-loop-again Inv-loop μ-loop
 loop-again c = (omega arith, rw holds-more (cc))

@@ -1,5 +1,5 @@
 -- `bvh_rules::hull_ok` meets its contract, by those of its calls. Assumes nothing.
-use Rattle.bvh_rules.specs.Check.{hullOk}
+use Rattle.bvh_rules.specs.Inside.Steps.{hullOk}
 use borrow.Author.Needs.{needs}
 use Rattle.bvh_rules.proofs.hull_ok.Statement.{statement}
 use Rattle.bvh_rules.proofs.hull_ok.Tie as tie

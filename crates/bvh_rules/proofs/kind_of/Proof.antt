@@ -6,8 +6,8 @@ use borrow.Author.Needs.{needs}
 use Rattle.bvh_rules.proofs.kind_of.Statement.{statement}
 use Rattle.bvh_rules.proofs.kind_of.Tie as tie
 
-add-t11 : tie.Need-add-t11
-add-t11 c = omega (arith, hull-at _ _ _ (sym (c .before .before .before .before .before .hull-ok .ensures) ∙ c .before .before .before .before .if1 .taken))
+add-t10 : tie.Need-add-t10
+add-t10 c = omega (arith, hull-at _ _ _ (sym (c .before .before .before .before .before .hull-ok .ensures) ∙ c .before .before .before .before .if1 .taken))
 
 returns : tie.Need-returns
 returns c = kind-inner _ _ _ _ _ _ (sym (c .before .before .before .before .before .before .hull-ok .ensures) ∙ c .before .before .before .before .before .if1 .taken) (c .before .before .before .if2 .taken) (c .before .if3 .taken)
@@ -15,11 +15,11 @@ returns c = kind-inner _ _ _ _ _ _ (sym (c .before .before .before .before .befo
 returns-2 : tie.Need-returns-2
 returns-2 c = kind-started _ _ _ _ _ _ (sym (c .before .before .before .before .before .hull-ok .ensures) ∙ c .before .before .before .before .if1 .taken) (c .before .before .if2 .taken) (c .if3 .left)
 
-add-t14 : tie.Need-add-t14
-add-t14 c = omega (arith, hull-at _ _ _ (sym (c .before .before .before .before .before .hull-ok .ensures) ∙ c .before .before .before .before .if1 .taken))
+add-t13 : tie.Need-add-t13
+add-t13 c = omega (arith, hull-at _ _ _ (sym (c .before .before .before .before .before .hull-ok .ensures) ∙ c .before .before .before .before .if1 .taken))
 
-add-t16 : tie.Need-add-t16
-add-t16 c = omega (arith, leaf-start _ _ _ _ (sym (c .before .before .leaf-ok .ensures) ∙ c .before .if4 .taken), c .before .before .before .before .before .before .before .good)
+add-t15 : tie.Need-add-t15
+add-t15 c = omega (arith, leaf-start _ _ _ _ (sym (c .before .before .leaf-ok .ensures) ∙ c .before .if4 .taken), c .before .before .before .before .before .before .before .good)
 
 returns-3 : tie.Need-returns-3
 returns-3 c = kind-leaf _ _ _ _ _ _ (sym (c .before .before .before .before .before .before .hull-ok .ensures) ∙ c .before .before .before .before .before .if1 .taken) (c .before .before .before .if2 .left) (sym (c .before .before .leaf-ok .ensures) ∙ c .before .if4 .taken)
@@ -34,5 +34,5 @@ pub kind-of-spec : {M : Type 1} → statement M
 kind-of-spec =
     tie.close
     (tie.spec
-    (λ c κs. search needs) add-t11 (λ c. search needs) returns returns-2 (λ c κs. search needs) add-t14
-    (λ c. search needs) add-t16 returns-3 returns-4 returns-5)
+    (λ c κs. search needs) add-t10 (λ c. search needs) returns returns-2 (λ c κs. search needs) add-t13
+    (λ c. search needs) add-t15 returns-3 returns-4 returns-5)

@@ -1,5 +1,5 @@
 -- `bvh_rules::leaf_words` meets its contract, by those of its calls. Assumes nothing.
-use Rattle.bvh_rules.specs.Check.{leafWords}
+use Rattle.bvh_rules.specs.Inside.Steps.{leafWords}
 use borrow.Author.Needs.{needs}
 use Rattle.bvh_rules.proofs.leaf_words.Statement.{statement}
 use Rattle.bvh_rules.proofs.leaf_words.Tie as tie
