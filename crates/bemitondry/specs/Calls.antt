@@ -1,76 +1,113 @@
--- What each public call answers. Definitions only.
-use Prim.Native.Nat.{ℕ}
-use mathlib.Core.Bool.{_&&_, cond}
+-- What each public call replies. before is a number that applies already, w and f are a call's table as words and as floats. Definitions only.
+use Prim.Native.Nat.{ℕ, _+_, _*_}
+use mathlib.Core.Bool.{Bool, _&&_, cond}
 use mathlib.Core.List.{List}
-use lib.Dec.{eqb}
-use lib.Ieee.{Float}
+use lib.Dec.{leb, ltb, eqb}
+use lib.Ieee.{Float, binary32, toBits}
 use Rattle.root.specs.Root.{rootOf}
 use Rattle.scalar.specs.F32.{f1}
 use Rattle.scalar.specs.Ranges.{magnitude}
 use Rattle.scalar.specs.Acos.{acosOf}
 use Rattle.vec.specs.declared.Vec3.{Vec3}
 use Rattle.sdf.specs.declared.Shape.{Shape}
+use Rattle.sdf.specs.declared.Aabb.{Aabb}
+use Rattle.sdf.specs.declared.Bounds.{Bounds}
+use Rattle.sdf.specs.declared.Bounds.the-variants.{Within, Unbounded}
 use Rattle.sdf.specs.Shapes.{distOf}
 use Rattle.sdf.specs.Boxes.{boundsOf}
-use Rattle.refusals.specs.Refusals.{badNumber, unless, lower}
+use Rattle.refusals.specs.Refusals.{badNumber, wrongList, unless, lower}
 use Rattle.refusals.specs.Ranges.{greatest, farthest, upTo, within}
 use Rattle.refusals.specs.Prims.{primNumber}
-use Rattle.bemitondry.specs.declared.Scalar.{Scalar}
-use Rattle.bemitondry.specs.declared.Boxed.{Boxed}
 use Rattle.plan.specs.declared.DistHit.{DistHit}
-use Rattle.plan.specs.Model.{countObjects, planesOf}
-use Rattle.plan.specs.Nearest.{nearest, nothing, listHit, distMatList}
-use Rattle.plan_test.specs.Sound.{objectsNumber, solidsOf}
+use Rattle.plan.specs.Sections.{argsRow}
+use Rattle.plan.specs.Records.{wordOf, floatOf, vecOf}
+use Rattle.plan.specs.Plan.{planOf}
+use Rattle.plan_test.specs.Tests.{objectsNumber, solidsOf}
 use Rattle.bvh_boxes.specs.Boxes.{boxesOf}
+use Rattle.bvh_rules.specs.Nodes.{nodesOf, orderOf}
 use Rattle.bvh_rules.specs.Check.{standingNumber}
-use Rattle.bvh_search.specs.Search.{searchOf}
-use Rattle.bemitondry.specs.declared.Found.{Found}
-use Rattle.bemitondry.specs.Answers.{scalarOf, boxedOf, foundOf}
+use Rattle.bvh_search.specs.declared.Searched.{Searched}
+use Rattle.bvh_search.specs.Field.{hitBy, fieldBy}
+use Rattle.reply.specs.declared.Reply.{Reply}
+use Rattle.reply.specs.Reply.{refusedReply, doneReply, oneWord, replyOf}
 
--- "Root takes 0 to `f32::MAX`, arc cosine -1 to 1"
-unfoldable pub rootAnswer : Float → Scalar
-rootAnswer x = scalarOf (unless badNumber (upTo x greatest)) (rootOf x)
+-- ---- answers
+abbrev pub bits : Float → ℕ
+bits x = toBits binary32 x
 
-unfoldable pub acosAnswer : Float → Scalar
-acosAnswer x = scalarOf (unless badNumber (magnitude x f1)) (acosOf x)
+unfoldable pub floatReply : ℕ → Float → Reply
+floatReply n x = replyOf n (oneWord (bits x))
 
--- "query points to 200,000"
-unfoldable pub primDistAnswer : ℕ → Shape → Vec3 → Scalar
-primDistAnswer kind s p = scalarOf (lower (primNumber kind s) (unless badNumber (within p farthest))) (distOf s p)
+abbrev pub boxWords : Aabb → Reply
+boxWords b = doneReply (bits (b .lo .x)) (bits (b .lo .y)) (bits (b .lo .z)) (bits (b .hi .x)) (bits (b .hi .y)) (bits (b .hi .z)) 0 0
 
 -- a plane has no box, and gets 5
-unfoldable pub primBoundsAnswer : ℕ → Shape → Boxed
-primBoundsAnswer kind s = boxedOf (primNumber kind s) (boundsOf s)
+unfoldable pub boxReply : ℕ → Bounds → Reply
+boxReply n (Within b) = replyOf n (boxWords b)
+boxReply n Unbounded = refusedReply (lower n wrongList)
 
--- ---- "`viewer_query` goes over the objects alone, from the bound given" (any finite number). before is a number that applies already
-unfoldable pub queryNumber : ℕ → List ℕ → List Float → Vec3 → Float → ℕ
-queryNumber before w f p bound =
-    lower before (lower (unless badNumber (within p farthest && magnitude bound greatest)) (objectsNumber w f))
+-- distance, material, nodes popped, objects evaluated
+unfoldable pub foundReply : DistHit → ℕ → ℕ → Reply
+foundReply h popped evaluated = doneReply (bits (h .d)) (h .mat) popped evaluated 0 0 0 0
 
--- by the plain list: no node is popped and every object is evaluated
-unfoldable pub queryAnswer : ℕ → List ℕ → List Float → Vec3 → Float → ℕ → Found
-queryAnswer before w f p bound mat =
-    foundOf (queryNumber before w f p bound) (listHit w f p (record { d = bound; mat = mat })) 0 (countObjects w)
+-- ---- "Root takes 0 to `f32::MAX`, arc cosine -1 to 1"
+unfoldable pub rootReply : ℕ → Float → Reply
+rootReply before x = floatReply (lower before (unless badNumber (upTo x greatest))) (rootOf x)
 
--- the number n, and where it is 0 that of the standing tree, which is higher than any tested before it
-unfoldable pub withTree : ℕ → List ℕ → List Float → List ℕ → List ℕ → List Float → ℕ
-withTree n nw nf o w f = cond (eqb n 0) (standingNumber nw nf o (boxesOf w f)) n
+unfoldable pub acosReply : ℕ → Float → Reply
+acosReply before x = floatReply (lower before (unless badNumber (magnitude x f1))) (acosOf x)
 
--- by the tree of nodes nw, nf and order o
-unfoldable pub queryTreeAnswer : ℕ → List ℕ → List Float → List ℕ → List ℕ → List Float → Vec3 → Float → ℕ → Found
-queryTreeAnswer before nw nf o w f p bound mat =
-    let s = searchOf nw nf o w f p (record { d = bound; mat = mat }) in
-    foundOf (withTree (queryNumber before w f p bound) nw nf o w f) (s .hit) (s .popped) (s .evaluated)
+-- "query points to 200,000"
+unfoldable pub primDistReply : ℕ → ℕ → Shape → Vec3 → Reply
+primDistReply before kind s p =
+    floatReply (lower before (lower (primNumber kind s) (unless badNumber (within p farthest)))) (distOf s p)
+
+unfoldable pub primBoundsReply : ℕ → ℕ → Shape → Reply
+primBoundsReply before kind s = boxReply (lower before (primNumber kind s)) (boundsOf s)
+
+-- ---- the arguments
+abbrev pub argVec : List Float → ℕ → Vec3
+argVec f k = vecOf f (16 * argsRow + k)
+
+abbrev pub argFloat : List Float → ℕ → Float
+argFloat f k = floatOf f (16 * argsRow + k)
+
+abbrev pub argWord : List ℕ → ℕ → ℕ
+argWord w k = wordOf w (16 * argsRow + k)
+
+-- ---- by the tree where `tree` is 1, by the plain list where it is 0
+-- no number from k on is lower than n
+unfoldable pub decides : ℕ → ℕ → Bool
+decides n k = ltb 0 n && leb n k
+
+-- the number of the standing tree, where it is used
+abbrev pub treeNumber : ℕ → List ℕ → List Float → ℕ
+treeNumber tree w f = cond (eqb tree 1) (standingNumber (nodesOf w) (nodesOf f) (orderOf w) (boxesOf (planOf w f))) 0
+
+unfoldable pub withTree : ℕ → ℕ → List ℕ → List Float → ℕ
+withTree n tree w f = lower n (treeNumber tree w f)
+
+-- ---- "`viewer_query` goes over the objects alone, from the bound given" (any finite number)
+unfoldable pub queryNumber : ℕ → List ℕ → List Float → ℕ
+queryNumber before w f =
+    lower before
+    (lower (unless badNumber (within (argVec f 0) farthest && magnitude (argFloat f 3) greatest)) (objectsNumber (planOf w f)))
+
+abbrev pub queryBound : List ℕ → List Float → DistHit
+queryBound w f = record { d = argFloat f 3; mat = argWord w 4 }
+
+abbrev pub searchedReply : Searched → Reply
+searchedReply s = foundReply (s .hit) (s .popped) (s .evaluated)
+
+unfoldable pub queryReply : ℕ → ℕ → List ℕ → List Float → Reply
+queryReply before tree w f =
+    replyOf (withTree (queryNumber before w f) tree w f) (searchedReply (hitBy tree w f (argVec f 0) (queryBound w f)))
 
 -- ---- the source's `dist_mat`: planes, then objects
-unfoldable pub distMatNumber : ℕ → List ℕ → List Float → Vec3 → ℕ
-distMatNumber before w f p = lower before (lower (unless badNumber (within p farthest)) (solidsOf w f .number))
+unfoldable pub distMatNumber : ℕ → List ℕ → List Float → ℕ
+distMatNumber before w f =
+    lower before (lower (unless badNumber (within (argVec f 0) farthest)) (solidsOf (planOf w f) .number))
 
-unfoldable pub distMatAnswer : ℕ → List ℕ → List Float → Vec3 → Found
-distMatAnswer before w f p = foundOf (distMatNumber before w f p) (distMatList w f p) 0 0
-
-unfoldable pub distMatTree : List ℕ → List Float → List ℕ → List ℕ → List Float → Vec3 → DistHit
-distMatTree nw nf o w f p = searchOf nw nf o w f p (nearest (planesOf w f) p nothing) .hit
-
-unfoldable pub distMatTreeAnswer : ℕ → List ℕ → List Float → List ℕ → List ℕ → List Float → Vec3 → Found
-distMatTreeAnswer before nw nf o w f p = foundOf (withTree (distMatNumber before w f p) nw nf o w f) (distMatTree nw nf o w f p) 0 0
+unfoldable pub distMatReply : ℕ → ℕ → List ℕ → List Float → Reply
+distMatReply before tree w f =
+    replyOf (withTree (distMatNumber before w f) tree w f) (foundReply (fieldBy tree w f (argVec f 0)) 0 0)
