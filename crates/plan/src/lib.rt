@@ -106,6 +106,17 @@ pub fn word_in(ws: &Words, i: usize) -> u32
     0
 }
 
+// Word i + j, with no sum that could wrap.
+pub fn word_after(ws: &Words, i: usize, j: u32) -> u32
+    ensures { λ r. ⌜ r ≡ wordOf (now (ws .entry)) (i + j) ⌝ }
+{
+    if i < TABLE {
+        return word_in(ws, i + j as usize);
+    }
+    let _words: &[u32] = ws;
+    0
+}
+
 // Float i, and no number past the last.
 pub fn float_in(fs: &Floats, i: usize) -> f32
     ensures { λ r. ⌜ r ≡ floatOf (now (fs .entry)) i ⌝ }

@@ -1,8 +1,16 @@
-// Entries: a material, a plane, an object or a light is tested and written, or nothing changes.
+// Entries: a material, a plane, an object or a light that stands in a table's arguments is tested and written into its plan, or nothing changes.
 ghost use mathlib.Core.Path.{_≡_};
-ghost use Prim.Native.Nat.{_*_};
-ghost use lib.Seq.{sets};
-ghost use Rattle.plan_entry.specs.Entry.{addedOf, roomNumber, limitOf, countOf, rowOf, pieceNumber, usedWords, kept, pieceWords, cutterWords, putCutters, newPlace, oneMore, withPiece, AddsPiece, recordNumber, materialWords, lightWords, withMaterial, withLight, AddsMaterial, AddsLight};
+ghost use Prim.Native.Nat.{_+_, _*_};
+ghost use Rattle.plan.specs.Sections.{Section, materials, lights};
+ghost use Rattle.plan.specs.Plan.{countOf};
+ghost use Rattle.plan_entry.specs.Entry.{addedOf, argWord, argCutsNumber, argsNumber, sectionOf, roomNumber, pieceNumber, usedWords, usedWord, pieceWords, cutterWords, firstWord, recordWords, putRow, putCutters, newPlace, oneMore, withPiece, withMaterialWords, withLightWords, AddsPiece, AddsMaterial, AddsLight};
+ghost use Rattle.plan.specs.Plan.{planIn};
+ghost use Rattle.plan_test.specs.Tests.{countsOk};
+ghost use mathlib.Core.Bool.{_&&_};
+ghost use lib.Dec.{leb, ltb};
+ghost use Rattle.refusals.specs.Refusals.{unless, lower, noRoom};
+use plan::Floats;
+use plan::Words;
 use plan_test::Solids;
 
 pub enum Added {
@@ -19,6 +27,100 @@ pub fn added_of(no: u32, index: u32) -> Added
     Added::Refused(no)
 }
 
+// Word k of the arguments.
+fn arg_word(ws: &Words, k: u32) -> u32
+    ensures { λ r. ⌜ r ≡ argWord (now (ws .entry)) k ⌝ }
+{
+    plan::word_in(ws, plan::ARGS + k as usize)
+}
+
+// 2 where there are more than 8, or where the arguments, of so many bytes, end before the last.
+fn arg_cuts_number(ws: &Words, fs: &Floats, bytes: usize, n: u32) -> u32
+    ensures { λ r. ⌜ r ≡ argCutsNumber (now (ws .entry)) (now (fs .entry)) bytes n ⌝ }
+{
+    if n <= plan::CUTS {
+        if 64 + 64 * (n as usize) <= bytes {
+            return plan_test::cuts_number(ws, fs, plan::ARGS_ROW, 1, n);
+        }
+    }
+    refusals::NO_ROOM
+}
+
+fn args_number(among: bool, ws: &Words, fs: &Floats, bytes: usize) -> u32
+    ensures { λ r. ⌜ r ≡ argsNumber among (now (ws .entry)) (now (fs .entry)) bytes ⌝ }
+{
+    let h = plan::head_at(ws, fs, plan::ARGS_ROW as usize);
+    refusals::lower(
+        plan_test::own_number(among, ws[plan::COUNT_MATERIALS], h),
+        arg_cuts_number(ws, fs, bytes, h.cutters),
+    )
+}
+
+// Whether n cutters more have places.
+fn places_left(s: Solids, n: u32) -> bool
+    ensures { λ r. ⌜ r ≡ leb (s .planes + (s .objects + n)) 1024 ⌝ }
+{
+    if s.planes > plan::CUTTERS as u64 {
+        return false;
+    }
+    if s.objects > plan::CUTTERS as u64 {
+        return false;
+    }
+    s.planes + (s.objects + n as u64) <= plan::CUTTERS as u64
+}
+
+// Room for one more in a list, and for n cutters more.
+fn room_number(count: u32, most: u32, s: Solids, n: u32) -> u32
+    ensures { λ r. ⌜ r ≡ roomNumber count most s n ⌝ }
+{
+    refusals::lower(
+        s.number,
+        refusals::unless(
+            refusals::NO_ROOM,
+            refusals::both(count < most, places_left(s, n)),
+        ),
+    )
+}
+
+// Planes, or objects.
+fn most_of(among: bool) -> u32
+    ensures { λ r. ⌜ r ≡ sectionOf among .most ⌝ }
+{
+    if among { plan::PLANES } else { plan::OBJECTS }
+}
+
+fn row_of(among: bool) -> u32
+    ensures { λ r. ⌜ r ≡ sectionOf among .first ⌝ }
+{
+    if among {
+        plan::PLANE_ROW
+    } else {
+        plan::OBJECT_ROW
+    }
+}
+
+fn count_of(among: bool, ws: &Words) -> u32
+    ensures { λ r. ⌜ r ≡ countOf (sectionOf among) (now (ws .entry)) ⌝ }
+{
+    if among {
+        ws[plan::COUNT_PLANES]
+    } else {
+        ws[plan::COUNT_OBJECTS]
+    }
+}
+
+fn piece_number(before: u32, among: bool, ws: &Words, fs: &Floats, s: Solids, bytes: usize) -> u32
+    ensures { λ r. ⌜ r ≡ pieceNumber before among (now (ws .entry)) (now (fs .entry)) s bytes ⌝ }
+{
+    refusals::lower(
+        before,
+        refusals::lower(
+            args_number(among, ws, fs, bytes),
+            room_number(count_of(among, ws), most_of(among), s, arg_word(ws, 2)),
+        ),
+    )
+}
+
 // How many of its eight words a kind uses.
 fn used_words(kind: u32) -> u32
     ensures { λ r. ⌜ r ≡ usedWords kind ⌝ }
@@ -31,87 +133,35 @@ fn used_words(kind: u32) -> u32
     }
 }
 
-// Word i + j of the arguments, where the kind uses word j of its eight; else 0.
-fn kept(aw: &[u32], i: usize, kind: u32, j: u32) -> u32
-    ensures { λ r. ⌜ r ≡ kept (now (aw .entry)) i kind j ⌝ }
+// Word i + j, where the kind uses word j of its eight; else 0.
+fn used_word(ws: &Words, i: usize, kind: u32, j: u32) -> u32
+    ensures { λ r. ⌜ r ≡ usedWord (now (ws .entry)) i kind j ⌝ }
 {
     if j < used_words(kind) {
-        return args::word_after(aw, i, j as usize);
+        return plan::word_after(ws, i, j);
     }
     0
 }
 
-// Room for one more in a list, and for n cutters more among the 1,024.
-fn room_number(count: u32, limit: u32, s: Solids, n: u32) -> u32
-    ensures { λ r. ⌜ r ≡ roomNumber count limit s n ⌝ }
+// The row of the arguments' piece, its first cutter at a place.
+fn piece_words(ws: &Words, place: u32) -> [u32; 16]
+    ensures { λ r. ⌜ r ≡ pieceWords (now (ws .entry)) place ⌝ }
 {
-    let used = s.planes as u64 + (s.objects as u64 + n as u64);
-    refusals::lower(
-        s.number,
-        refusals::unless(2, refusals::both(count < limit, used <= 1024)),
-    )
-}
-
-fn limit_of(planes: bool) -> u32
-    ensures { λ r. ⌜ r ≡ limitOf planes ⌝ }
-{
-    if planes { 16 } else { 256 }
-}
-
-fn row_of(planes: bool) -> u32
-    ensures { λ r. ⌜ r ≡ rowOf planes ⌝ }
-{
-    if planes { 65 } else { 113 }
-}
-
-fn count_of(planes: bool, ws: &[u32; 22288]) -> u32
-    ensures { λ r. ⌜ r ≡ countOf planes (now (ws .entry)) ⌝ }
-{
-    if planes { ws[1] } else { ws[3] }
-}
-
-fn piece_number(
-    before: u32,
-    planes: bool,
-    ws: &[u32; 22288],
-    s: Solids,
-    aw: &[u32],
-    af: &[f32],
-    bytes: usize,
-) -> u32
-    ensures { λ r. ⌜ r ≡ pieceNumber before planes (now (ws .entry)) s (now (aw .entry)) (now (af .entry)) bytes ⌝ }
-{
-    refusals::lower(
-        before,
-        refusals::lower(
-            args::args_number(planes, ws[0], aw, af, bytes),
-            room_number(
-                count_of(planes, ws),
-                limit_of(planes),
-                s,
-                args::word_of(aw, 2),
-            ),
-        ),
-    )
-}
-
-fn piece_words(aw: &[u32], place: u32) -> [u32; 16]
-    ensures { λ r. ⌜ r ≡ pieceWords (now (aw .entry)) place ⌝ }
-{
-    let k = args::word_of(aw, 3);
+    let k = arg_word(ws, 3);
+    let i = plan::ARGS + 4;
     [
-        args::word_of(aw, 0),
-        args::word_of(aw, 1),
-        args::word_of(aw, 2),
+        arg_word(ws, 0),
+        arg_word(ws, 1),
+        arg_word(ws, 2),
         k,
-        kept(aw, 4, k, 0),
-        kept(aw, 4, k, 1),
-        kept(aw, 4, k, 2),
-        kept(aw, 4, k, 3),
-        kept(aw, 4, k, 4),
-        kept(aw, 4, k, 5),
-        kept(aw, 4, k, 6),
-        kept(aw, 4, k, 7),
+        used_word(ws, i, k, 0),
+        used_word(ws, i, k, 1),
+        used_word(ws, i, k, 2),
+        used_word(ws, i, k, 3),
+        used_word(ws, i, k, 4),
+        used_word(ws, i, k, 5),
+        used_word(ws, i, k, 6),
+        used_word(ws, i, k, 7),
         place,
         0,
         0,
@@ -119,22 +169,22 @@ fn piece_words(aw: &[u32], place: u32) -> [u32; 16]
     ]
 }
 
-// The words of the cutter in row r of the arguments.
-fn cutter_words(aw: &[u32], r: u32) -> [u32; 16]
-    ensures { λ ws. ⌜ ws ≡ cutterWords (now (aw .entry)) r ⌝ }
+// The row of cutter j of the arguments.
+fn cutter_words(ws: &Words, j: u32) -> [u32; 16]
+    ensures { λ r. ⌜ r ≡ cutterWords (now (ws .entry)) (1394 + j) ⌝ }
 {
-    let i = 16 * (r as usize);
-    let k = args::word_of(aw, i);
+    let i = 16 * (plan::ARGS_ROW as usize + 1 + j as usize);
+    let k = plan::word_in(ws, i);
     [
         k,
-        kept(aw, i + 1, k, 0),
-        kept(aw, i + 1, k, 1),
-        kept(aw, i + 1, k, 2),
-        kept(aw, i + 1, k, 3),
-        kept(aw, i + 1, k, 4),
-        kept(aw, i + 1, k, 5),
-        kept(aw, i + 1, k, 6),
-        kept(aw, i + 1, k, 7),
+        used_word(ws, i + 1, k, 0),
+        used_word(ws, i + 1, k, 1),
+        used_word(ws, i + 1, k, 2),
+        used_word(ws, i + 1, k, 3),
+        used_word(ws, i + 1, k, 4),
+        used_word(ws, i + 1, k, 5),
+        used_word(ws, i + 1, k, 6),
+        used_word(ws, i + 1, k, 7),
         0,
         0,
         0,
@@ -145,47 +195,86 @@ fn cutter_words(aw: &[u32], r: u32) -> [u32; 16]
     ]
 }
 
-// The sixteen words of row r.
-fn put_row(ws: &mut [u32; 22288], r: usize, rec: &[u32; 16])
-    ensures { λ _. ⌜ now (ws .exit) ≡ sets (now (ws .entry)) (16 * r) (now (rec .entry)) ⌝ }
+// Word k of a record of n words.
+fn first_word(ws: &Words, n: u32, k: u32) -> u32
+    ensures { λ r. ⌜ r ≡ firstWord (now (ws .entry)) n k ⌝ }
+{
+    if k < n { arg_word(ws, k) } else { 0 }
+}
+
+// The row of a record that is the first n words of the arguments.
+fn record_words(ws: &Words, n: u32) -> [u32; 16]
+    ensures { λ r. ⌜ r ≡ recordWords (now (ws .entry)) n ⌝ }
+{
+    [
+        first_word(ws, n, 0),
+        first_word(ws, n, 1),
+        first_word(ws, n, 2),
+        first_word(ws, n, 3),
+        first_word(ws, n, 4),
+        first_word(ws, n, 5),
+        first_word(ws, n, 6),
+        first_word(ws, n, 7),
+        first_word(ws, n, 8),
+        first_word(ws, n, 9),
+        first_word(ws, n, 10),
+        first_word(ws, n, 11),
+        first_word(ws, n, 12),
+        first_word(ws, n, 13),
+        first_word(ws, n, 14),
+        first_word(ws, n, 15),
+    ]
+}
+
+// The sixteen words of row r of the plan.
+fn put_row(ws: &mut Words, r: usize, rec: &[u32; 16])
+    ensures { λ _. ⌜ now (ws .exit) ≡ putRow (now (ws .entry)) r (now (rec .entry)) ⌝ }
 {
     // Only as a slice does a table tell the proof its length.
     let _rec: &[u32] = rec;
-    if r < 1393 {
+    if r < plan::ARGS_ROW as usize {
         let mut j: usize = 0;
         while j < 16 {
             ws[16 * r + j] = rec[j];
             j += 1;
         }
-        return;
     }
-    let _words: &[u32] = ws;
 }
 
 // The first n cutters of the arguments, from a place on.
-fn put_cutters(ws: &mut [u32; 22288], aw: &[u32], place: u32, n: u32)
-    ensures { λ _. ⌜ now (ws .exit) ≡ putCutters (now (ws .entry)) (now (aw .entry)) place n ⌝ }
+fn put_cutters(ws: &mut Words, place: u32, n: u32)
+    ensures { λ _. ⌜ now (ws .exit) ≡ putCutters (now (ws .entry)) place n ⌝ }
 {
     let mut j: u32 = 0;
     while j < n {
-        let rec = cutter_words(aw, 1 + j);
-        put_row(ws, 369 + (place as usize + j as usize), &rec);
+        let rec = cutter_words(ws, j);
+        put_row(
+            ws,
+            plan::CUTTER_ROW as usize + place as usize + j as usize,
+            &rec,
+        );
         j += 1;
     }
 }
 
 // Objects fill the places from the front, planes from the back.
-fn new_place(planes: bool, s: Solids, n: u32) -> u32
-    ensures { λ r. ⌜ r ≡ newPlace planes s n ⌝ }
+fn new_place(among: bool, s: Solids, n: u32) -> u32
+    ensures { λ r. ⌜ r ≡ newPlace among s n ⌝ }
 {
-    if planes {
-        let used = s.planes as u64 + n as u64;
-        if used <= 1024 {
-            return (1024 - used) as u32;
+    if among {
+        if s.planes > plan::CUTTERS as u64 {
+            return 0;
+        }
+        let used = s.planes + n as u64;
+        if used <= plan::CUTTERS as u64 {
+            return (plan::CUTTERS as u64 - used) as u32;
         }
         return 0;
     }
-    s.objects
+    if s.objects <= plan::CUTTERS as u64 {
+        return s.objects as u32;
+    }
+    0
 }
 
 fn one_more(n: u32) -> u32
@@ -194,141 +283,92 @@ fn one_more(n: u32) -> u32
     if n < 256 { n + 1 } else { n }
 }
 
-fn with_piece(planes: bool, ws: &mut [u32; 22288], aw: &[u32], place: u32)
-    ensures { λ _. ⌜ now (ws .exit) ≡ withPiece planes (now (ws .entry)) (now (aw .entry)) place ⌝ }
+fn with_piece(among: bool, ws: &mut Words, place: u32)
+    ensures { λ _. ⌜ now (ws .exit) ≡ withPiece among (now (ws .entry)) place ⌝ }
 {
-    let count = count_of(planes, ws);
-    put_cutters(ws, aw, place, args::word_of(aw, 2));
-    let rec = piece_words(aw, place);
-    put_row(ws, row_of(planes) as usize + count as usize, &rec);
-    if planes {
-        ws[1] = one_more(count);
+    let count = count_of(among, ws);
+    let n = arg_word(ws, 2);
+    let rec = piece_words(ws, place);
+    put_cutters(ws, place, n);
+    put_row(ws, row_of(among) as usize + count as usize, &rec);
+    if among {
+        ws[plan::COUNT_PLANES] = one_more(count);
         return;
     }
-    ws[3] = one_more(count);
+    ws[plan::COUNT_OBJECTS] = one_more(count);
 }
 
-// A plane or an object with its cutters: all enters, or nothing changes. `before` is a number that applies already, `fs` the plan seen as
+// A plane or an object with its cutters: all enters, or nothing changes. `before` is a number that applies already, `fs` the table seen as
 // floats, `bytes` how long the arguments are.
-pub fn add_piece(
-    before: u32,
-    planes: bool,
-    ws: &mut [u32; 22288],
-    fs: &[f32; 22288],
-    aw: &[u32],
-    af: &[f32],
-    bytes: usize,
-) -> Added
-    ensures { λ r. ⌜ AddsPiece before planes (now (ws .entry)) (now (fs .entry)) (now (aw .entry)) (now (af .entry)) bytes r (now (ws .exit)) ⌝ }
+pub fn add_piece(before: u32, among: bool, ws: &mut Words, fs: &Floats, bytes: usize) -> Added
+    ensures { λ r. ⌜ AddsPiece before among (now (ws .entry)) (now (fs .entry)) bytes r (now (ws .exit)) ⌝ }
 {
     let s = plan_test::judge_solids(ws, fs);
-    let no = piece_number(before, planes, ws, s, aw, af, bytes);
-    let count = count_of(planes, ws);
+    let no = piece_number(before, among, ws, fs, s, bytes);
+    let count = count_of(among, ws);
+    let place = new_place(among, s, arg_word(ws, 2));
     if no == 0 {
-        with_piece(planes, ws, aw, new_place(planes, s, args::word_of(aw, 2)));
+        with_piece(among, ws, place);
         return added_of(no, count);
     }
     added_of(no, count)
 }
 
-fn record_number(no: u32, ws: &[u32; 22288], count: u32, limit: u32) -> u32
-    ensures { λ r. ⌜ r ≡ recordNumber no (now (ws .entry)) count limit ⌝ }
+// What a record gets: `before` is what applies already, `own` what its words get.
+fn record_number(before: u32, own: u32, ws: &Words, count: u32, most: u32) -> u32
+    ensures { λ r. ⌜ r ≡ lower (lower before own) (unless noRoom (countsOk (planIn (now (ws .entry))) && ltb count most)) ⌝ }
 {
     refusals::lower(
-        no,
-        refusals::unless(2, refusals::both(plan_test::counts_ok(ws), count < limit)),
+        refusals::lower(before, own),
+        refusals::unless(
+            refusals::NO_ROOM,
+            refusals::both(plan_test::counts_ok(ws), count < most),
+        ),
     )
 }
 
-fn material_words(aw: &[u32]) -> [u32; 16]
-    ensures { λ r. ⌜ r ≡ materialWords (now (aw .entry)) ⌝ }
+fn with_material(ws: &mut Words, count: u32)
+    ensures { λ _. ⌜ (count ≡ countOf materials (now (ws .entry)) → now (ws .exit) ≡ withMaterialWords (now (ws .entry))) ⌝ }
 {
-    [
-        args::word_of(aw, 0),
-        args::word_of(aw, 1),
-        args::word_of(aw, 2),
-        args::word_of(aw, 3),
-        args::word_of(aw, 4),
-        0,
-        0,
-        0,
-        0,
-        0,
-        0,
-        0,
-        0,
-        0,
-        0,
-        0,
-    ]
-}
-
-fn light_words(aw: &[u32]) -> [u32; 16]
-    ensures { λ r. ⌜ r ≡ lightWords (now (aw .entry)) ⌝ }
-{
-    [
-        args::word_of(aw, 0),
-        args::word_of(aw, 1),
-        args::word_of(aw, 2),
-        args::word_of(aw, 3),
-        args::word_of(aw, 4),
-        args::word_of(aw, 5),
-        args::word_of(aw, 6),
-        args::word_of(aw, 7),
-        args::word_of(aw, 8),
-        args::word_of(aw, 9),
-        args::word_of(aw, 10),
-        args::word_of(aw, 11),
-        args::word_of(aw, 12),
-        args::word_of(aw, 13),
-        args::word_of(aw, 14),
-        0,
-    ]
-}
-
-fn with_material(ws: &mut [u32; 22288], aw: &[u32])
-    ensures { λ _. ⌜ now (ws .exit) ≡ withMaterial (now (ws .entry)) (now (aw .entry)) ⌝ }
-{
-    // By a call, whose answer the proof knows to be a u32.
-    let count = args::word_of(ws, 0);
-    let rec = material_words(aw);
-    put_row(ws, 1 + count as usize, &rec);
-    ws[0] = one_more(count);
+    let rec = record_words(ws, 5);
+    put_row(ws, plan::MATERIAL_ROW as usize + count as usize, &rec);
+    ws[plan::COUNT_MATERIALS] = one_more(count);
 }
 
 // A light takes two rows, and the second is spare.
-fn with_light(ws: &mut [u32; 22288], aw: &[u32])
-    ensures { λ _. ⌜ now (ws .exit) ≡ withLight (now (ws .entry)) (now (aw .entry)) ⌝ }
+fn with_light(ws: &mut Words, count: u32)
+    ensures { λ _. ⌜ (count ≡ countOf lights (now (ws .entry)) → now (ws .exit) ≡ withLightWords (now (ws .entry))) ⌝ }
 {
-    let count = args::word_of(ws, 2);
-    let rec = light_words(aw);
-    let none = [0u32; 16];
-    put_row(ws, 81 + 2 * (count as usize), &rec);
-    put_row(ws, 82 + 2 * (count as usize), &none);
-    ws[2] = one_more(count);
+    let rec = record_words(ws, 15);
+    let none = record_words(ws, 0);
+    let r = plan::LIGHT_ROW as usize + 2 * (count as usize);
+    put_row(ws, r, &rec);
+    put_row(ws, r + 1, &none);
+    ws[plan::COUNT_LIGHTS] = one_more(count);
 }
 
-// `no` is what the material gets, with whatever applies already.
-pub fn add_material(no: u32, ws: &mut [u32; 22288], aw: &[u32]) -> Added
-    ensures { λ r. ⌜ AddsMaterial no (now (ws .entry)) (now (aw .entry)) r (now (ws .exit)) ⌝ }
+pub fn add_material(before: u32, ws: &mut Words, fs: &Floats) -> Added
+    ensures { λ r. ⌜ AddsMaterial before (now (ws .entry)) (now (fs .entry)) r (now (ws .exit)) ⌝ }
 {
-    let count = ws[0];
-    let n = record_number(no, ws, count, 64);
-    if n == 0 {
-        with_material(ws, aw);
-        return added_of(n, count);
+    let count = plan::word_in(ws, plan::COUNT_MATERIALS);
+    let own = plan_test::material_number(plan::material_at(fs, plan::ARGS_ROW as usize));
+    let no = record_number(before, own, ws, count, plan::MATERIALS);
+    if no == 0 {
+        with_material(ws, count);
+        return added_of(no, count);
     }
-    added_of(n, count)
+    added_of(no, count)
 }
 
-pub fn add_light(no: u32, ws: &mut [u32; 22288], aw: &[u32]) -> Added
-    ensures { λ r. ⌜ AddsLight no (now (ws .entry)) (now (aw .entry)) r (now (ws .exit)) ⌝ }
+pub fn add_light(before: u32, ws: &mut Words, fs: &Floats) -> Added
+    ensures { λ r. ⌜ AddsLight before (now (ws .entry)) (now (fs .entry)) r (now (ws .exit)) ⌝ }
 {
-    let count = ws[2];
-    let n = record_number(no, ws, count, 16);
-    if n == 0 {
-        with_light(ws, aw);
-        return added_of(n, count);
+    let count = plan::word_in(ws, plan::COUNT_LIGHTS);
+    let own = plan_test::light_number(plan::light_at(fs, plan::ARGS_ROW as usize));
+    let no = record_number(before, own, ws, count, plan::LIGHTS);
+    if no == 0 {
+        with_light(ws, count);
+        return added_of(no, count);
     }
-    added_of(n, count)
+    added_of(no, count)
 }

@@ -1,4 +1,1 @@
 pub mod Lists
-pub mod Numbers
-pub mod Exact
-pub mod Apart

@@ -1,41 +1,172 @@
--- What a loop over numbers or pieces needs at its start and at a turn: one more at the end is one more step. By induction on the list. Assumes nothing.
-use Prim.Native.Nat.{ℕ, _+_}
-use mathlib.Core.Path.{_≡_, refl}
-use mathlib.Core.Bool.{Bool}
-use mathlib.Core.List.{List, [], _∷_, _++_}
+-- What the loops over pieces need at a turn, by induction on the list, and what a test of a sum or of a number needs. Assumes nothing.
+use Prim.Native.Nat.{ℕ, _+_, _*_, _≤_, _<_}
+use native.Mathlib.Nat.{add-zero, zero-add, add-assoc}
 use native.Mathlib.Numerals.{add-one}
+use native.Mathlib.Omega.{arith}
+use mathlib.Core.Path.{_≡_, refl, sym, _∙_, ap}
+use mathlib.Core.Bool.{Bool, true, false, cond, _&&_, and-true, and-assoc}
+use mathlib.Core.List.{List, [], _∷_, _++_}
+use lib.ListN.{length}
+use lib.Dec.{leb}
 use lib.Ieee.{Float}
+use mir.Syntax.{w64}
+use mir.Val.{Fits}
 use Rattle.words.specs.Lists.{listFrom}
-use Rattle.words.proofs.Runs.{from-snoc}
-use Rattle.refusals.specs.Refusals.{lower}
-use Rattle.plan.specs.declared.Head.{Head}
-use Rattle.plan.specs.Model.{headAt}
+use Rattle.words.proofs.Runs.{from-snoc, length-from}
+use Rattle.refusals.specs.Refusals.{noRoom, lower, lowestOf}
+use Rattle.refusals.proofs.Lowest.{lowest-start, lowest-more}
+use Rattle.plan.specs.Sections.{materials, planes, lights, objects}
+use Rattle.plan.specs.Records.{materialAt, lightIn, headAt}
+use Rattle.plan.specs.Plan.{Piece, pieceAt, piecesFrom, countOf, planOf, seen, planIn}
 use Rattle.plan_test.specs.declared.Tally.{Tally}
-use Rattle.plan_test.specs.Sound.{lowest, tallyOne, tally, headsFrom}
+use Rattle.plan_test.specs.declared.Solids.{Solids}
+use Rattle.plan_test.specs.Numbers.{lightNumber, ownNumber, pieceOwn, pieceCuts}
+use Rattle.plan_test.specs.Tests.{countsOk, cuttersOf, placeOk, placesOk, tallyOf, objectsNumber, solidsOf, litNumber}
 
-lowest-snoc : (n : ℕ) (ms : List ℕ) (m : ℕ) → lowest n (ms ++ (m ∷ [])) ≡ lower (lowest n ms) m
-unfolding lowest
-lowest-snoc n [] m = refl
-lowest-snoc n (x ∷ ms) m = lowest-snoc (lower n x) ms m
+-- ---- counts do not depend on floats
+pub counts-words
+    : (w : List ℕ) (f : List Float)
+    → countsOk (planOf w f)
+    ≡ (leb (countOf materials w) 64
+    && (leb (countOf planes w) 16 && (leb (countOf lights w) 16 && leb (countOf objects w) 256)))
+unfolding countsOk planOf piecesFrom
+counts-words w f =
+    rw (
+      length-from (materialAt f) (materials .first) (countOf materials w),
+      length-from (pieceAt w f) (planes .first) (countOf planes w),
+      length-from (lightIn f) 0 (countOf lights w),
+      length-from (pieceAt w f) (objects .first) (countOf objects w),
+    )
 
-module _ (g : ℕ → ℕ) (n a : ℕ) where
-  pub lowest-none : n ≡ lowest n (listFrom g a 0)
-  unfolding lowest listFrom
-  lowest-none = refl
+pub counts-any : (w : List ℕ) (f g : List Float) → countsOk (planOf w f) ≡ countsOk (planOf w g)
+counts-any w f g = counts-words w f ∙ sym (counts-words w g)
 
-  pub lowest-more : (j : ℕ) → lowest n (listFrom g a (j + 1)) ≡ lower (lowest n (listFrom g a j)) (g (a + j))
-  lowest-more j = rw (add-one, from-snoc g a j, lowest-snoc)
+-- ---- one piece more at the end of a list
+pub cutters-snoc : (os : List Piece) (o : Piece) → cuttersOf (os ++ (o ∷ [])) ≡ cuttersOf os + o .head .cutters
+unfolding cuttersOf
+cutters-snoc [] o = omega arith
+cutters-snoc (x ∷ os) o = rw (cutters-snoc os o) (omega arith)
 
-pub tally-snoc : (planes : Bool) (m : ℕ) (t : Tally) (hs : List Head) (h : Head) → tally planes m t (hs ++ (h ∷ [])) ≡ tallyOne planes m (tally planes m t hs) h
-unfolding tally
-tally-snoc planes m t [] h = refl
-tally-snoc planes m t (x ∷ hs) h = tally-snoc planes m (tallyOne planes m t x) hs h
+pub placed-snoc
+    : (among : Bool) (before : ℕ) (os : List Piece) (o : Piece)
+    → placesOk among before (os ++ (o ∷ [])) ≡ (placesOk among before os && placeOk among (before + cuttersOf os) (o .head))
+unfolding placesOk cuttersOf
+placed-snoc among before [] o = rw (add-zero, and-true)
+placed-snoc among before (x ∷ os) o =
+    rw (placed-snoc among (before + x .head .cutters) os o, add-assoc before (x .head .cutters) (cuttersOf os))
+    (sym (and-assoc
+    (placeOk among before (x .head))
+    (placesOk among (before + x .head .cutters) os)
+    (placeOk among (before + (x .head .cutters + cuttersOf os)) (o .head))))
 
-module _ (planes : Bool) (m : ℕ) (t : Tally) (w : List ℕ) (f : List Float) (r : ℕ) where
-  pub tally-none : t ≡ tally planes m t (headsFrom w f r 0)
-  unfolding tally headsFrom listFrom
-  tally-none = refl
+module _ (w : List ℕ) (f : List Float) (r : ℕ) where
+  pub used-start : 0 ≡ cuttersOf (piecesFrom w f r 0)
+  unfolding cuttersOf piecesFrom listFrom
+  used-start = refl
 
-  pub tally-more : (j : ℕ) → tally planes m t (headsFrom w f r (j + 1)) ≡ tallyOne planes m (tally planes m t (headsFrom w f r j)) (headAt w f (r + j))
-  unfolding headsFrom
-  tally-more j = rw (add-one, from-snoc (headAt w f) r j, tally-snoc)
+  pub used-more : (j : ℕ) → cuttersOf (piecesFrom w f r (j + 1)) ≡ cuttersOf (piecesFrom w f r j) + headAt w f (r + j) .cutters
+  unfolding piecesFrom pieceAt
+  used-more j = rw (add-one, from-snoc (pieceAt w f) r j, cutters-snoc)
+
+  pub own-start : (among : Bool) (m : ℕ) → 0 ≡ lowestOf (pieceOwn among m) (piecesFrom w f r 0)
+  unfolding piecesFrom
+  own-start among m = lowest-start (pieceOwn among m) (pieceAt w f) r
+
+  pub own-more
+      : (among : Bool) (m j : ℕ)
+      → lowestOf (pieceOwn among m) (piecesFrom w f r (j + 1))
+      ≡ lower (lowestOf (pieceOwn among m) (piecesFrom w f r j)) (ownNumber among m (headAt w f (r + j)))
+  unfolding piecesFrom pieceOwn pieceAt
+  own-more among m j = lowest-more (pieceOwn among m) (pieceAt w f) r j
+
+  pub placed-start : (among : Bool) → true ≡ placesOk among 0 (piecesFrom w f r 0)
+  unfolding placesOk piecesFrom listFrom
+  placed-start among = refl
+
+  pub placed-more
+      : (among : Bool) (j : ℕ)
+      → placesOk among 0 (piecesFrom w f r (j + 1))
+      ≡ (placesOk among 0 (piecesFrom w f r j) && placeOk among (cuttersOf (piecesFrom w f r j)) (headAt w f (r + j)))
+  unfolding piecesFrom pieceAt
+  placed-more among j = rw (add-one, from-snoc (pieceAt w f) r j, placed-snoc, zero-add)
+
+-- a sum of j words, and of one more
+pub sum-words : (used n j : ℕ) → used ≤ 4294967295 * j → n ≤ 4294967295 → used + n ≤ 4294967295 * (j + 1)
+sum-words used n j h k = omega arith
+
+pub sum-fits : (used n j : ℕ) → used ≤ 4294967295 * j → j < 4294967295 → n ≤ 4294967295 → Fits w64 (used + n)
+sum-fits used n j h l k = record { fits = omega arith }
+
+-- ---- a plan's number, of the words that the code reads
+-- cutters that are judged in one place are judged in both
+lower-cond : (b : Bool) (m n : ℕ) → cond b (lower m n) noRoom ≡ lower (cond b m noRoom) (cond b n noRoom)
+unfolding lower
+lower-cond true m n = refl
+lower-cond false m n = refl
+
+module _ (w : List ℕ) (f : List Float) where
+  abbrev planesIn : List Piece
+  planesIn = piecesFrom w f (planes .first) (countOf planes w)
+
+  abbrev objectsIn : List Piece
+  objectsIn = piecesFrom w f (objects .first) (countOf objects w)
+
+  abbrev tallied : Bool → List Piece → Tally
+  tallied among os = tallyOf among (countOf materials w) os
+
+  abbrev allPlaced : Bool
+  allPlaced =
+      tallied true planesIn .placed
+      && (tallied false objectsIn .placed && leb (tallied true planesIn .used + tallied false objectsIn .used) 1024)
+
+  pub objects-words
+      : objectsNumber (planOf w f)
+      ≡ cond (countsOk (planIn w))
+      (lower (tallied false objectsIn .number)
+      (cond (tallied false objectsIn .placed && leb (tallied false objectsIn .used) 1024) (lowestOf pieceCuts objectsIn) noRoom))
+      noRoom
+  unfolding objectsNumber planOf
+  objects-words = rw (counts-any w f (seen w), length-from (materialAt f) (materials .first) (countOf materials w))
+
+  abbrev solidsIn : Solids
+  solidsIn =
+      record {
+        number =
+            lower (lower (tallied true planesIn .number) (tallied false objectsIn .number))
+            (lower (cond allPlaced (lowestOf pieceCuts planesIn) noRoom) (cond allPlaced (lowestOf pieceCuts objectsIn) noRoom));
+        planes = tallied true planesIn .used;
+        objects = tallied false objectsIn .used;
+      }
+
+  pub solids-words : solidsOf (planOf w f) ≡ cond (countsOk (planIn w)) solidsIn (record { number = noRoom; planes = 0; objects = 0 })
+  unfolding solidsOf planOf
+  solids-words =
+      rw (
+        counts-any w f (seen w),
+        length-from (materialAt f) (materials .first) (countOf materials w),
+        lower-cond allPlaced (lowestOf pieceCuts planesIn) (lowestOf pieceCuts objectsIn),
+      )
+
+  -- as the code computes it, call by call
+  pub solids-made
+      : {p o : Tally} {fit some placed : Bool} {a b cuts own number : ℕ}
+      → p ≡ tallied true planesIn
+      → o ≡ tallied false objectsIn
+      → fit ≡ leb (p .used + o .used) 1024
+      → some ≡ (o .placed && fit)
+      → placed ≡ (p .placed && some)
+      → a ≡ cond placed (lowestOf pieceCuts planesIn) noRoom
+      → b ≡ cond placed (lowestOf pieceCuts objectsIn) noRoom
+      → cuts ≡ lower a b
+      → own ≡ lower (p .number) (o .number)
+      → number ≡ lower own cuts
+      → _≡_ {A = Solids} (record { number = number; planes = p .used; objects = o .used }) solidsIn
+  solids-made p o fit some placed a b cuts own number = rw (number, own, cuts, a, b, placed, some, fit, p, o)
+
+  pub lit-words
+      : litNumber (planOf w f)
+      ≡ cond (countsOk (planIn w))
+      (lower (solidsOf (planOf w f) .number) (lowestOf lightNumber (listFrom (lightIn f) 0 (countOf lights w))))
+      noRoom
+  unfolding litNumber planOf
+  lit-words = rw (counts-any w f (seen w))

@@ -1,5 +1,5 @@
 -- `plan_test::cutter_number` meets its contract. Assumes nothing.
-use Rattle.plan_test.specs.Sound.{cutterNumber}
+use Rattle.plan_test.specs.Numbers.{cutterNumber}
 use borrow.Author.Needs.{needs}
 use Rattle.plan_test.proofs.cutter_number.Statement.{statement}
 use Rattle.plan_test.proofs.cutter_number.Tie as tie
@@ -9,6 +9,5 @@ unfolding cutterNumber
 returns c = cc
 
 pub cutter-number-spec : {M : Type 1} → statement M
-cutter-number-spec =
-    tie.close (tie.spec
-    (λ c κs. search needs) (λ c κs. search needs) (λ c κs. search needs) returns)
+cutter-number-spec = tie.close (tie.spec
+    (λ c κs. search needs) returns)

@@ -1,21 +1,21 @@
 -- `plan_test::objects_number` meets its contract. Assumes nothing.
 use mathlib.Core.Path.{sym}
-use Rattle.plan_test.specs.Sound.{objectsNumber}
+use Rattle.plan_test.proofs.Lists.{objects-words}
 use borrow.Author.Needs.{needs}
 use Rattle.plan_test.proofs.objects_number.Statement.{statement}
 use Rattle.plan_test.proofs.objects_number.Tie as tie
 
 returns : tie.Need-returns
-unfolding objectsNumber
-returns c = rw (sym (c .before .before .before .before .before .before .before .before .counts-ok .ensures), c .before .before .before .before .before .before .before .if1 .taken) (cc)
+returns c =
+    let i = c .before .before .before .before .before .before in
+    rw (objects-words, sym (i .before .counts-ok .ensures), i .if1 .taken) (cc)
 
 returns-2 : tie.Need-returns-2
-unfolding objectsNumber
-returns-2 c = rw (sym (c .before .counts-ok .ensures), c .if1 .left)
+returns-2 c = rw (objects-words, sym (c .before .counts-ok .ensures), c .if1 .left)
 
 pub objects-number-spec : {M : Type 1} → statement M
 objects-number-spec =
     tie.close
     (tie.spec
-    (λ c κs. search needs) (λ c. search needs) (λ c κs. search needs) (λ c κs. search needs)
-    (λ c. search needs) (λ c κs. search needs) (λ c κs. search needs) returns returns-2)
+    (λ c κs. search needs) (λ c. search needs) (λ c κs. search needs) (λ c. search needs)
+    (λ c κs. search needs) (λ c κs. search needs) (λ c κs. search needs) returns returns-2)

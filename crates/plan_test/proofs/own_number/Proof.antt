@@ -1,12 +1,11 @@
 -- `plan_test::own_number` meets its contract. Assumes nothing.
-use Rattle.plan_test.specs.Sound.{ownNumber}
-use Rattle.refusals.specs.Ranges.{size}
+use Rattle.plan_test.specs.Numbers.{ownNumber}
 use borrow.Author.Needs.{needs}
 use Rattle.plan_test.proofs.own_number.Statement.{statement}
 use Rattle.plan_test.proofs.own_number.Tie as tie
 
 returns : tie.Need-returns
-unfolding ownNumber size
+unfolding ownNumber
 returns c = cc
 
 pub own-number-spec : {M : Type 1} → statement M

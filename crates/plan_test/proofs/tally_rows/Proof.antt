@@ -1,27 +1,56 @@
--- `plan_test::tally_rows` meets its contract: the tally so far is that of the pieces passed. Assumes nothing.
+-- `plan_test::tally_rows` meets its contract: the tally so far is that of the pieces passed, and no sum of so many words wraps. Assumes nothing.
 use borrow.Author.Needs.{needs}
-use Prim.Native.Nat.{_≤_, _-_}
+use Prim.Native.Nat.{_+_, _*_, _≤_, _-_}
 use mathlib.Core.Path.{_≡_}
 use native.Mathlib.Omega.{arith}
-use Rattle.plan.specs.Model.{countMaterials}
-use Rattle.plan_test.specs.Sound.{tally, noTally, headsFrom}
-use Rattle.plan_test.proofs.Lists.{tally-none, tally-more}
+use Rattle.refusals.specs.Refusals.{lowestOf}
+use Rattle.plan.specs.Sections as sections
+use Rattle.plan.specs.Plan.{piecesFrom, countOf}
+use Rattle.plan_test.specs.Numbers.{pieceOwn}
+use Rattle.plan_test.specs.Tests.{cuttersOf, placesOk, tallyOf}
+use Rattle.plan_test.proofs.Lists.{own-start, own-more, used-start, used-more, placed-start, placed-more, sum-words, sum-fits}
 use Rattle.plan_test.proofs.tally_rows.Statement.{statement}
 use Rattle.plan_test.proofs.tally_rows.Tie as tie
 
 abbrev Inv-loop : tie.InvT-loop
-Inv-loop ws fs planes r n materials t₀ j₀ t j = (materials ≡ countMaterials ws) × (j ≤ n) × (t ≡ tally planes (countMaterials ws) noTally (headsFrom ws fs r j))
+Inv-loop ws fs planes r n materials number₀ placed₀ used₀ j₀ number placed used j =
+    (materials ≡ countOf sections.materials ws) × (j ≤ n)
+    × (number ≡ lowestOf (pieceOwn planes materials) (piecesFrom ws fs r j))
+    × (placed ≡ placesOk planes 0 (piecesFrom ws fs r j)) × (used ≡ cuttersOf (piecesFrom ws fs r j))
+    × (used ≤ 4294967295 * j)
 
 abbrev μ-loop : tie.MeasureT-loop
-μ-loop ws fs planes r n materials t₀ j₀ t j = n - j
+μ-loop ws fs planes r n materials number₀ placed₀ used₀ j₀ number placed used j = n - j
 
 loop-holds : tie.Need-loop-holds Inv-loop μ-loop
-loop-holds c = let a = c .before .args in (search needs, search needs, tally-none (a .planes) (countMaterials (a .ws .now)) noTally (a .ws .now) (a .fs .now) (a .r))
+loop-holds c =
+    let a = c .before .args in
+    let w = a .ws .now in
+    let f = a .fs .now in (
+      search needs,
+      search needs,
+      own-start w f (a .r) (a .planes) (countOf sections.materials w),
+      placed-start w f (a .r) (a .planes),
+      used-start w f (a .r),
+      search needs,
+    )
+
+add-used : tie.Need-add-used Inv-loop μ-loop
+add-used c = let l = c .before .before .before .before .before .before .before in sum-fits (l .loop .used) _ (l .loop .j) (search needs) (search needs) (search needs)
 
 loop-again : tie.Need-loop-again Inv-loop μ-loop
-loop-again c = (search needs, omega arith, rw tally-more (cc))
+loop-again c =
+    let l = c .before .before .before .before .before .before .before in (
+      search needs,
+      omega arith,
+      rw own-more (cc),
+      rw placed-more (cc),
+      rw used-more (cc),
+      sum-words (l .loop .used) _ (l .loop .j) (search needs) (search needs),
+    )
 
 returns : tie.Need-returns Inv-loop μ-loop
+unfolding tallyOf
 returns c = let e : c .before .loop .j ≡ c .before .before .before .args .n = omega arith in cc
 
 pub tally-rows-spec : {M : Type 1} → statement M
@@ -29,4 +58,6 @@ tally-rows-spec =
     tie.close
     (tie.spec
     Inv-loop μ-loop (λ c. search needs) loop-holds (λ c. search needs) (λ c. search needs)
-    (λ c κs. search needs) (λ c κs. search needs) (λ c. search needs) (λ c. search needs) loop-again returns)
+    (λ c κs. search needs) (λ c κs. search needs) (λ c κs. search needs) (λ c κs. search needs)
+    (λ c κs. search needs) (λ c. search needs) add-used (λ c. search needs) (λ c. search needs) loop-again
+    returns)

@@ -1,6 +1,6 @@
 -- `reply::refused` meets its contract. Assumes nothing.
 use mathlib.Core.Path.{refl}
-use Rattle.reply.specs.Replies.{refusedReply}
+use Rattle.reply.specs.Reply.{refusedReply}
 use Rattle.reply.proofs.refused.Statement.{statement}
 use Rattle.reply.proofs.refused.Tie as tie
 

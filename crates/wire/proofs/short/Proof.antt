@@ -1,0 +1,13 @@
+-- `wire::short` meets its contract, by that of `unless`. Assumes nothing.
+use Rattle.wire.specs.Lent.{shortNumber}
+use borrow.Author.Needs.{needs}
+use Rattle.wire.proofs.short.Statement.{statement}
+use Rattle.wire.proofs.short.Tie as tie
+
+returns : tie.Need-returns
+unfolding shortNumber
+returns c = cc
+
+pub short-spec : {M : Type 1} → statement M
+short-spec = tie.close (tie.spec
+    (λ c κs. search needs) returns)

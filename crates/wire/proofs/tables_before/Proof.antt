@@ -1,0 +1,13 @@
+-- `wire::tables_before` meets its contract, by those of its calls. Assumes nothing.
+use Rattle.wire.specs.Sent.{tablesBefore}
+use borrow.Author.Needs.{needs}
+use Rattle.wire.proofs.tables_before.Statement.{statement}
+use Rattle.wire.proofs.tables_before.Tie as tie
+
+returns : tie.Need-returns
+unfolding tablesBefore
+returns c = cc
+
+pub tables-before-spec : {M : Type 1} → statement M
+tables-before-spec = tie.close (tie.spec
+    (λ c κs. search needs) (λ c κs. search needs) (λ c κs. search needs) returns)

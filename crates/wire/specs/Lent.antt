@@ -1,0 +1,51 @@
+-- Lent tables. "An `args` shorter than the call reads is a short table (2) whose words are not judged." Definitions only.
+use Prim.Native.Nat.{ℕ, _+_, _-_}
+use mathlib.Core.Bool.{Bool, cond, _&&_}
+use mathlib.Core.List.{List, [], _++_}
+use lib.ListN.{length, take, drop}
+use lib.Dec.{leb, eqb}
+use lib.Ieee.{Float, binary32, ofBits}
+use Rattle.vec.specs.declared.Vec3.{Vec3}
+use Rattle.words.specs.Words.{wordAt, wordsOf}
+use Rattle.refusals.specs.Refusals.{noRoom, unless}
+
+-- "plan 22,288 words, 89,152 bytes; nodes 4,599 words, 18,396 bytes; order 256 words, 1,024 bytes", and sixteen words of an answer
+abbrev pub planBytes : ℕ
+planBytes = 89152
+
+abbrev pub nodesBytes : ℕ
+nodesBytes = 18396
+
+abbrev pub orderBytes : ℕ
+orderBytes = 1024
+
+abbrev pub outBytes : ℕ
+outBytes = 64
+
+-- a table of so many bytes that is short of its full size gets 2
+unfoldable pub shortNumber : ℕ → ℕ → ℕ
+shortNumber bytes full = unless noRoom (leb full bytes)
+
+-- a short table stands as all zero: none of its bytes are there
+unfoldable pub lentOf : List ℕ → ℕ → List ℕ
+lentOf t full = cond (leb full (length t)) t []
+
+-- "`nodes` and `order` are looked at only where the tree is used": where `tree` is 1
+unfoldable pub usedOf : ℕ → List ℕ → ℕ → List ℕ
+usedOf tree t full = cond (eqb tree 1) (lentOf t full) []
+
+unfoldable pub givenFloat : List ℕ → ℕ → Float
+givenFloat t i = ofBits binary32 (wordAt t i)
+
+unfoldable pub givenVec : List ℕ → ℕ → Vec3
+givenVec t i = record { x = givenFloat t i; y = givenFloat t (i + 1); z = givenFloat t (i + 2) }
+
+-- a table's words loaded from one place up to another
+unfoldable pub loadedPart : List ℕ → List ℕ → ℕ → ℕ → List ℕ
+loadedPart t w from to =
+    cond (leb to (length w) && leb from to) (take from w ++ (wordsOf t (to - from) ++ drop (to - from) (drop from w))) w
+
+-- ---- what a call works on: plan, arguments, nodes and order, and zeros to a whole row
+unfoldable pub tableOf : List ℕ → List ℕ → List ℕ → List ℕ → List ℕ
+tableOf plan args nodes order =
+    (((wordsOf plan 22288 ++ wordsOf args 144) ++ wordsOf nodes 4599) ++ wordsOf order 256) ++ wordsOf [] 9

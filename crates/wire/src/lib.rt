@@ -1,0 +1,167 @@
+// The boundary's tables: which are short, how what is lent is loaded into one table of words and floats, and how it is stored and a reply sent.
+ghost use mathlib.Core.Path.{_≡_};
+ghost use mathlib.Core.List.{[]};
+ghost use Rattle.plan.specs.Plan.{seen};
+ghost use Rattle.wire.specs.Lent.{shortNumber, lentOf, usedOf, givenFloat, givenVec, loadedPart, tableOf};
+ghost use Rattle.wire.specs.Sent.{argsBefore, planBefore, tablesBefore, treeBefore, storedPart, clearedFront, cleared, Sent};
+use plan::Floats;
+use plan::Words;
+use reply::Reply;
+use vec::Vec3;
+
+// Bytes of a plan, of nodes, of an order, and of an answer.
+pub const PLAN_BYTES: usize = 89152;
+
+pub const NODES_BYTES: usize = 18396;
+
+pub const ORDER_BYTES: usize = 1024;
+
+pub const OUT_BYTES: usize = 64;
+
+// 2 where a table is short of its full size.
+pub fn short(bytes: usize, full: usize) -> u32
+    ensures { λ r. ⌜ r ≡ shortNumber bytes full ⌝ }
+{
+    refusals::unless(refusals::NO_ROOM, full <= bytes)
+}
+
+// The table, or nothing of it where it is short: its words are 0 then.
+pub fn lent(t: &[u8], full: usize) -> &[u8]
+    ensures { λ r. ⌜ now r ≡ lentOf (now (t .entry)) full ⌝ }
+{
+    if full <= t.len() {
+        return t;
+    }
+    &t[..0]
+}
+
+// Nothing of a table: what a call does not look at.
+pub fn none(t: &[u8]) -> &[u8]
+    ensures { λ r. ⌜ now r ≡ [] ⌝ }
+{
+    &t[..0]
+}
+
+// A table of a tree, which is looked at where `tree` is 1.
+pub fn used(tree: u32, t: &[u8], full: usize) -> &[u8]
+    ensures { λ r. ⌜ now r ≡ usedOf tree (now (t .entry)) full ⌝ }
+{
+    if tree == 1 {
+        return lent(t, full);
+    }
+    none(t)
+}
+
+pub fn float_at(t: &[u8], i: usize) -> f32
+    ensures { λ r. ⌜ r ≡ givenFloat (now (t .entry)) i ⌝ }
+{
+    scalar::float(words::word(t, i))
+}
+
+// Three floats from i on.
+pub fn vec_at(t: &[u8], i: u32) -> Vec3
+    ensures { λ r. ⌜ r ≡ givenVec (now (t .entry)) i ⌝ }
+{
+    let at = i as usize;
+    Vec3 {
+        x: float_at(t, at),
+        y: float_at(t, at + 1),
+        z: float_at(t, at + 2),
+    }
+}
+
+// The words of a table, loaded from one place up to another.
+fn load_part(t: &[u8], ws: &mut [u32], from: usize, to: usize)
+    ensures { λ _. ⌜ now (ws .exit) ≡ loadedPart (now (t .entry)) (now (ws .entry)) from to ⌝ }
+{
+    if to <= ws.len() {
+        if from <= to {
+            words::load(t, &mut ws[from..to]);
+        }
+    }
+}
+
+// The tables as they are lent, in one; what they do not have is 0.
+pub fn load(plan: &[u8], args: &[u8], nodes: &[u8], order: &[u8], ws: &mut Words, fs: &mut Floats)
+    ensures { λ _.
+        ⌜ (now (ws .exit) ≡ tableOf (now (plan .entry)) (now (args .entry)) (now (nodes .entry)) (now (order .entry)))
+        × (now (fs .exit) ≡ seen (now (ws .exit))) ⌝ }
+{
+    load_part(plan, ws, 0, plan::ARGS);
+    load_part(args, ws, plan::ARGS, plan::NODES);
+    load_part(nodes, ws, plan::NODES, plan::ORDER);
+    load_part(order, ws, plan::ORDER, plan::ORDER + 256);
+    load_part(none(order), ws, plan::ORDER + 256, plan::TABLE);
+    words::floats(ws, fs);
+}
+
+// What applies by the lengths of arguments and answer.
+pub fn args_before(need: usize, args: usize, out: usize) -> u32
+    ensures { λ r. ⌜ r ≡ argsBefore need args out ⌝ }
+{
+    refusals::lower(short(args, need), short(out, OUT_BYTES))
+}
+
+// The same, with the plan's.
+pub fn plan_before(plan: usize, need: usize, args: usize, out: usize) -> u32
+    ensures { λ r. ⌜ r ≡ planBefore plan need args out ⌝ }
+{
+    refusals::lower(short(plan, PLAN_BYTES), args_before(need, args, out))
+}
+
+// What applies by the lengths of a tree's two tables.
+pub fn tables_before(nodes: usize, order: usize) -> u32
+    ensures { λ r. ⌜ r ≡ tablesBefore nodes order ⌝ }
+{
+    refusals::lower(short(nodes, NODES_BYTES), short(order, ORDER_BYTES))
+}
+
+// What applies by `tree`: 1 is the tree, 0 the plain list.
+pub fn tree_before(tree: u32, nodes: usize, order: usize) -> u32
+    ensures { λ r. ⌜ r ≡ treeBefore tree nodes order ⌝ }
+{
+    if tree == 1 {
+        return tables_before(nodes, order);
+    }
+    refusals::unless(refusals::BAD_NUMBER, tree == 0)
+}
+
+// The first words of a table of words are stored.
+pub fn store_part(stores: bool, ws: &[u32], n: usize, b: &mut [u8])
+    ensures { λ _. ⌜ now (b .exit) ≡ storedPart stores (now (ws .entry)) n (now (b .entry)) ⌝ }
+{
+    if stores {
+        if n <= ws.len() {
+            words::store(&ws[..n], b);
+        }
+    }
+}
+
+// The first n bytes become 0, where there are so many.
+fn clear_front(b: &mut [u8], n: usize)
+    ensures { λ _. ⌜ now (b .exit) ≡ clearedFront (now (b .entry)) n ⌝ }
+{
+    if n <= b.len() {
+        let mut i: usize = 0;
+        while i < n {
+            b[i] = 0;
+            i += 1;
+        }
+    }
+}
+
+pub fn clear(clears: bool, b: &mut [u8], n: usize)
+    ensures { λ _. ⌜ now (b .exit) ≡ cleared clears (now (b .entry)) n ⌝ }
+{
+    if clears {
+        clear_front(b, n);
+    }
+}
+
+pub fn send(r: Reply, out: &mut [u8]) -> u32
+    ensures { λ n. ⌜ Sent r (now (out .entry)) n (now (out .exit)) ⌝ }
+{
+    let ws = r.words;
+    words::send(&ws, out);
+    r.number
+}
