@@ -29,6 +29,10 @@ abbrev pub weight : Tree → ℕ
 weight (leaf b c) = c
 weight (node b l r) = weight l + weight r
 
+-- a place of the order as itself: `listFrom place s n` are n places from s on
+abbrev pub place : ℕ → ℕ
+place i = i
+
 -- "Depth: the root is at 0"
 abbrev pub depth : Tree → ℕ
 depth (leaf b c) = 0

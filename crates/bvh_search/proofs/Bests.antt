@@ -13,19 +13,19 @@ use Rattle.float_order.specs.Order.{closer}
 use Rattle.float_order.proofs.Order.{number-eq, le-left, le-refl, le-trans}
 use Rattle.float_order.proofs.Extremes.{closer-left, closer-right, closer-one}
 use Rattle.plan.specs.declared.DistHit.{DistHit}
-use Rattle.plan.specs.Model.{Piece}
-use Rattle.plan.specs.Nearest.{pieceDist, nearer, nearest}
-use Rattle.plan.specs.Nearest as scene
-use Rattle.bvh_rules.specs.Rules.{Tree}
+use Rattle.plan.specs.Plan.{Piece}
+use Rattle.plan.specs.Nearest.{pieceDist, hitOf, nearest}
+use Rattle.plan.specs.Nearest as plan
+use Rattle.bvh_rules.specs.Rules.{Tree, place}
 use Rattle.bvh_search.specs.Search.{pieceIn, leafHit}
-use Rattle.bvh_search.specs.Walk.{Passed, Walk, walkFrom, place, near, visit}
+use Rattle.bvh_search.specs.Walk.{Passed, Walk, walkFrom, near, visit}
 use Rattle.bvh_search.specs.Demand.{In, dist, Least}
 use Rattle.bvh_search.proofs.Covers.{in-left, in-right, in-split}
 use Rattle.bvh_search.proofs.Steps.{keeps}
 
-nearer-d : (x : Piece) (p : Vec3) (best : DistHit) → nearer x p best .d ≡ closer (best .d) (pieceDist x p)
-unfolding nearer scene.closer
-nearer-d x p best = go (lt (pieceDist x p) (best .d))
+closer-d : (x : Piece) (p : Vec3) (best : DistHit) → plan.closer best (hitOf x p) .d ≡ closer (best .d) (pieceDist x p)
+unfolding plan.closer hitOf
+closer-d x p best = go (lt (pieceDist x p) (best .d))
   where
     go : (y : Bool) → cond y (record { d = pieceDist x p; mat = x .head .material }) best .d ≡ cond y (pieceDist x p) (best .d)
     go true = refl
@@ -69,7 +69,7 @@ module _ (o : List ℕ) (w : List ℕ) (f : List Float) (p : Vec3) (bound : Floa
   good-leaf zero s best seen passed g = rw append-nil g
   good-leaf (suc k) s best seen passed g =
       rw (← (append-assoc seen (s ∷ []) (listFrom place (suc s) k)))
-      (good-leaf k (suc s) (nearer (pieceIn w f o s) p best) (seen ++ (s ∷ [])) passed (rw (nearer-d (pieceIn w f o s) p best) (good-one s (best .d) seen passed g)))
+      (good-leaf k (suc s) (plan.closer best (hitOf (pieceIn w f o s) p)) (seen ++ (s ∷ [])) passed (rw (closer-d (pieceIn w f o s) p best) (good-one s (best .d) seen passed g)))
 
   abbrev pub Kept : Walk → Type 0
   Kept σ = Good (σ .best .d) (σ .seen) (σ .passed)

@@ -9,8 +9,8 @@ use native.Mathlib.Omega.{arith}
 use lib.Ieee.{Float}
 use Rattle.vec.specs.declared.Vec3.{Vec3}
 use Rattle.words.specs.Lists.{listFrom}
-use Rattle.bvh_rules.specs.Rules.{Tree, leaf, node, weight}
-use Rattle.bvh_search.specs.Walk.{Passed, Walk, place, more, skip, visit}
+use Rattle.bvh_rules.specs.Rules.{Tree, leaf, node, weight, place}
+use Rattle.bvh_search.specs.Walk.{Passed, Walk, more, skip, visit}
 use Rattle.bvh_search.specs.Demand.{In}
 use Rattle.bvh_search.proofs.Steps.{at-leaf, at-node, keeps}
 

@@ -11,7 +11,8 @@ use lib.Ieee.{Float, eq}
 use Rattle.vec.specs.declared.Vec3.{Vec3}
 use Rattle.sdf.specs.declared.Aabb.{Aabb}
 use Rattle.plan.specs.declared.DistHit.{DistHit}
-use Rattle.plan.specs.Model.{countObjects}
+use Rattle.plan.specs.Sections.{objects}
+use Rattle.plan.specs.Plan.{countOf}
 use Rattle.bvh_rules.specs.Rules.{Tree, size, Accepted}
 use Rattle.bvh_rules.proofs.Trees.{stands-fit}
 use Rattle.bvh_search.specs.Search.{searched, searchOf}
@@ -43,12 +44,12 @@ answered o w f p t bound n =
 
 -- nodes nw and nf, order o, a plan's words w and f whose objects have the boxes bs, and the tree t that the tables hold
 module _ (nw : List ℕ) (nf : List Float) (o w : List ℕ) (f : List Float) (bs : List Aabb) (t : Tree) (long : length nw ≡ 4599) (few : length bs ≤ 256)
-    (all : length bs ≡ countObjects w) (held : Accepted nw nf o bs t) (p : Vec3) (bound : DistHit) where
+    (all : length bs ≡ countOf objects w) (held : Accepted nw nf o bs t) (p : Vec3) (bound : DistHit) where
   pub demand-three : T (eq (bound .d) (bound .d)) → Demand o w f p t bound (searchOf nw nf o w f p bound)
   demand-three n = rw (search-walks nw nf o w f p long bs t held few all bound) (answered o w f p t bound n)
 
   -- each node is popped, and each object evaluated, at most once
-  pub demand-counts : (searchOf nw nf o w f p bound .popped ≤ size t) × (size t ≤ 511) × (searchOf nw nf o w f p bound .evaluated ≤ countObjects w)
+  pub demand-counts : (searchOf nw nf o w f p bound .popped ≤ size t) × (size t ≤ 511) × (searchOf nw nf o w f p bound .evaluated ≤ countOf objects w)
   demand-counts =
       let k = counts o w f p t 0 (walkFrom bound) in
       rw (search-walks nw nf o w f p long bs t held few all bound) (
@@ -58,6 +59,6 @@ module _ (nw : List ℕ) (nf : List Float) (o w : List ℕ) (f : List Float) (bs
       )
 
 -- with no objects the bound comes back, and nothing is popped
-pub search-empty : (nw : List ℕ) (nf : List Float) (o w : List ℕ) (f : List Float) (p : Vec3) (bound : DistHit) → countObjects w ≡ 0 → searchOf nw nf o w f p bound ≡ searched bound 0 0 true
+pub search-empty : (nw : List ℕ) (nf : List Float) (o w : List ℕ) (f : List Float) (p : Vec3) (bound : DistHit) → countOf objects w ≡ 0 → searchOf nw nf o w f p bound ≡ searched bound 0 0 true
 unfolding searchOf
 search-empty nw nf o w f p bound e = rw e

@@ -9,7 +9,7 @@ use Rattle.vec.specs.declared.Vec3.{Vec3}
 use Rattle.words.specs.Lists.{listFrom}
 use Rattle.words.proofs.Runs.{from-snoc}
 use Rattle.plan.specs.declared.DistHit.{DistHit}
-use Rattle.plan.specs.Nearest.{nearer, nearest}
+use Rattle.plan.specs.Nearest.{hitOf, closer, nearest}
 use Rattle.plan.proofs.Lists.{nearest-snoc}
 use Rattle.bvh_rules.specs.declared.Node.{Node}
 use Rattle.bvh_search.specs.Search.{pieceIn, leafHit, placesOf}
@@ -36,6 +36,6 @@ module _ (w : List ℕ) (f : List Float) (o : List ℕ) (p : Vec3) (s : ℕ) (be
   unfolding leafHit listFrom nearest
   hit-none = refl
 
-  pub hit-more : (j : ℕ) → leafHit w f o p s (j + 1) best ≡ nearer (pieceIn w f o (s + j)) p (leafHit w f o p s j best)
+  pub hit-more : (j : ℕ) → leafHit w f o p s (j + 1) best ≡ closer (leafHit w f o p s j best) (hitOf (pieceIn w f o (s + j)) p)
   unfolding leafHit
   hit-more j = rw (add-one, from-snoc (pieceIn w f o) s j, nearest-snoc)

@@ -20,8 +20,8 @@ use Rattle.bvh_rules.specs.declared.Node.{Node}
 use Rattle.bvh_rules.specs.Nodes.{nodeAt}
 use Rattle.bvh_search.specs.declared.Searched.{Searched}
 use Rattle.bvh_search.specs.declared.State.{State}
-use Rattle.bvh_search.specs.Search.{Turn, on, full, searched, leafHit, placesOf, nodeDist, pushed, turnOf, runOf}
-use Rattle.bvh_search.specs.Machine.{
+use Rattle.bvh_search.specs.Search.{Turn, on, full, searched, leafScan, placesOf, nodeDist, pushed, turnOf, runOf}
+use Rattle.bvh_search.specs.Inside.Machine.{
   Tables,
   tables,
   boxSquare,
@@ -204,7 +204,7 @@ module _ (nw : List ℕ) (nf : List Float) (o : List ℕ) (w : List ℕ) (f : Li
           leafed : eqb (v .count) 0 ≡ false → Popped (tables stack keys (scannedOf o w f p stack keys (popping s) v))
           unfolding turnOf scannedOf
           leafed z =
-              let x : State = scanned (popping s) (leafHit w f o p (v .start) (placesOf v) (s .hit)) (placesOf v) in
+              let x : State = scanned (popping s) (leafScan w f o p (v .start) (placesOf v) (s .hit)) in
               nexted x pops
               (idle x (placesOf v) (places-few v) refl pops (evals (placesOf v) (places-few v)) refl (rw (near false e, g, z)))
 

@@ -19,7 +19,7 @@ use Rattle.float_order.proofs.Order.{yes-of, is-yes, is-not, not-of, same-test,
 use Rattle.float_order.proofs.Bounds.{finite-between}
 use Rattle.float_order.proofs.Rounding.{zero-is, no-debit}
 use Rattle.float_order.proofs.Roots.{plain-of, root-mono}
-use Rattle.bvh_search.specs.Machine.{usual, farOff, partsRoots, leftFirst}
+use Rattle.bvh_search.specs.Inside.Machine.{usual, farOff, partsRoots, leftFirst}
 
 -- ---- what is not below zero: the sign clear, or -0, which is its own root
 zero-root : rootOf zeroF ≡ zeroF

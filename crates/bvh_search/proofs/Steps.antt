@@ -14,8 +14,8 @@ use Rattle.sdf.specs.Boxes.{boxDist}
 use Rattle.words.specs.Lists.{listFrom}
 use Rattle.words.proofs.Runs.{length-from}
 use Rattle.float_order.proofs.Order.{yes-of}
-use Rattle.bvh_rules.specs.Rules.{Tree, leaf, node, size, weight}
-use Rattle.bvh_search.specs.Walk.{Walk, place, near, more, skip, evaluate, visit}
+use Rattle.bvh_rules.specs.Rules.{Tree, leaf, node, size, weight, place}
+use Rattle.bvh_search.specs.Walk.{Walk, near, more, skip, evaluate, visit}
 
 pub length-seen : (seen : List ℕ) (s c : ℕ) → length (seen ++ listFrom place s c) ≡ length seen + c
 length-seen seen s c = rw (length-append, length-from place s c)

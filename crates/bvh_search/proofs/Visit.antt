@@ -13,7 +13,8 @@ use Rattle.vec.specs.declared.Vec3.{Vec3}
 use Rattle.sdf.specs.declared.Aabb.{Aabb}
 use Rattle.sdf.specs.Boxes.{boxDist}
 use Rattle.plan.specs.declared.DistHit.{DistHit}
-use Rattle.plan.specs.Model.{countObjects}
+use Rattle.plan.specs.Sections.{objects}
+use Rattle.plan.specs.Plan.{countOf}
 use Rattle.bvh_rules.specs.Nodes.{nodeAt, leafNode, innerNode}
 use Rattle.bvh_rules.specs.Rules.{Tree, leaf, node, size, weight, depth, Stands, Accepted}
 use Rattle.bvh_rules.proofs.Trees.{weight-above, stands-fit, stands-below}
@@ -159,9 +160,9 @@ module _ (nw : List ℕ) (nf : List Float) (o : List ℕ) (w : List ℕ) (f : Li
       }
 
       -- the search's answer on an accepted tree: that of the walk, and whole
-      pub search-walks : length bs ≡ countObjects w → (bound : DistHit) → searchOf nw nf o w f p bound ≡ answer (visit o w f p t 0 (walkFrom bound))
+      pub search-walks : length bs ≡ countOf objects w → (bound : DistHit) → searchOf nw nf o w f p bound ≡ answer (visit o w f p t 0 (walkFrom bound))
       unfolding searchOf
       search-walks all bound =
-          let ne : countObjects w ≡ 0 → ⊥ = λ z. omega (arith, weight-above nw nf 0 0 t (h .holds .stands), h .holds .all) in
+          let ne : countOf objects w ≡ 0 → ⊥ = λ z. omega (arith, weight-above nw nf 0 0 t (h .holds .stands), h .holds .all) in
           let q = seen t 0 0 511 [] (walkFrom bound) root-fits in
-          rw (ne-eqb (countObjects w) 0 ne) (q .goes ∙ run-none (q .left) (visit o w f p t 0 (walkFrom bound)))
+          rw (ne-eqb (countOf objects w) 0 ne) (q .goes ∙ run-none (q .left) (visit o w f p t 0 (walkFrom bound)))

@@ -1,4 +1,5 @@
 pub mod Search
-pub mod Machine
+pub mod Field
 pub mod Walk
 pub mod Demand
+pub mod Inside

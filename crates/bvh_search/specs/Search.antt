@@ -1,5 +1,5 @@
--- "The search pops, skips a node whose box distance is at least the present best, and pushes the farther child first, the left child when equal. It reports
--- nodes popped and objects evaluated." Definitions only.
+-- "The search pops, skips a node whose box distance is at least the present best, and pushes the farther child first,
+-- the left child when equal. It reports nodes popped and objects evaluated." Definitions only.
 use Prim.Native.Nat.{ℕ, zero, suc, _+_, _-_, min}
 use mathlib.Core.Bool.{Bool, true, false, cond}
 use mathlib.Core.List.{List, [], _∷_}
@@ -10,28 +10,39 @@ use Rattle.vec.specs.declared.Vec3.{Vec3}
 use Rattle.sdf.specs.Boxes.{boxDist}
 use Rattle.words.specs.Lists.{listFrom}
 use Rattle.plan.specs.declared.DistHit.{DistHit}
-use Rattle.plan.specs.Model.{Piece, wordOf, pieceAt, objectRow, countObjects}
+use Rattle.plan.specs.Sections.{objects}
+use Rattle.plan.specs.Records.{wordOf}
+use Rattle.plan.specs.Plan.{Piece, pieceAt, countOf}
 use Rattle.plan.specs.Nearest.{nearest}
 use Rattle.bvh_rules.specs.declared.Node.{Node}
-use Rattle.bvh_rules.specs.Nodes.{nodeAt}
+use Rattle.bvh_rules.specs.Nodes.{nodesMost, orderPlaces, nodeAt}
+use Rattle.bvh_search.specs.declared.Scan.{Scan}
 use Rattle.bvh_search.specs.declared.Searched.{Searched}
 
 -- the object at place i of the order
 unfoldable pub pieceIn : List ℕ → List Float → List ℕ → ℕ → Piece
-pieceIn w f o i = pieceAt w f (objectRow + wordOf o i)
+pieceIn w f o i = pieceAt w f (objects .first + wordOf o i)
 
 -- the best of a hit and c objects from place s of the order on
 unfoldable pub leafHit : List ℕ → List Float → List ℕ → Vec3 → ℕ → ℕ → DistHit → DistHit
 leafHit w f o p s c best = nearest (listFrom (pieceIn w f o) s c) p best
 
+-- the same, with how many were evaluated
+abbrev pub leafScan : List ℕ → List Float → List ℕ → Vec3 → ℕ → ℕ → DistHit → Scan
+leafScan w f o p s c best = record { hit = leafHit w f o p s c best; evaluated = c }
+
 -- as many of a leaf's places as the order table has
 unfoldable pub placesOf : Node → ℕ
-placesOf v = min (v .count) (256 - v .start)
+placesOf v = min (v .count) (orderPlaces - v .start)
 
--- what a pop comes to: the stack, the hit and how many objects more were evaluated; or a stack with no room for two
+-- what a pop comes to: the stack, the hit and how many objects more were evaluated; or a stack of 64 places with no
+-- room for two
 pub data Turn : Type 0 where
   on : List ℕ → DistHit → ℕ → Turn
   full : Turn
+
+abbrev pub onScan : List ℕ → Scan → Turn
+onScan rest x = on rest (x .hit) (x .evaluated)
 
 abbrev pub searched : DistHit → ℕ → ℕ → Bool → Searched
 searched b k e whole = record { hit = b; popped = k; evaluated = e; whole = whole }
@@ -49,10 +60,10 @@ module _ (nw : List ℕ) (nf : List Float) (o : List ℕ) (w : List ℕ) (f : Li
   unfoldable pub turnOf : ℕ → List ℕ → DistHit → Turn
   turnOf a rest b =
       cond (le (b .d) (nodeDist a)) (on rest b 0)
-      (cond (ltb a 511)
+      (cond (ltb a nodesMost)
       (cond (eqb (nodeAt nw nf a .count) 0)
       (cond (ltb 62 (length rest)) full (on (pushed (a + 1) (nodeAt nw nf a .right) rest) b 0))
-      (on rest (leafHit w f o p (nodeAt nw nf a .start) (placesOf (nodeAt nw nf a)) b) (placesOf (nodeAt nw nf a))))
+      (onScan rest (leafScan w f o p (nodeAt nw nf a .start) (placesOf (nodeAt nw nf a)) b)))
       (on rest b 0))
 
   abbrev pub onTurn : Turn → (List ℕ → DistHit → ℕ → Searched) → Searched → Searched
@@ -64,8 +75,9 @@ module _ (nw : List ℕ) (nf : List Float) (o : List ℕ) (w : List ℕ) (f : Li
   runOf zero [] b k e = searched b k e true
   runOf zero (a ∷ rest) b k e = searched b k e false
   runOf (suc fuel) [] b k e = searched b k e true
-  runOf (suc fuel) (a ∷ rest) b k e = onTurn (turnOf a rest b) (λ l h c. runOf fuel l h (k + 1) (e + c)) (searched b (k + 1) e false)
+  runOf (suc fuel) (a ∷ rest) b k e =
+      onTurn (turnOf a rest b) (λ l h c. runOf fuel l h (k + 1) (e + c)) (searched b (k + 1) e false)
 
   -- with no objects nothing is popped
   unfoldable pub searchOf : DistHit → Searched
-  searchOf bound = cond (eqb (countObjects w) 0) (searched bound 0 0 true) (runOf 511 (0 ∷ []) bound 0 0)
+  searchOf bound = cond (eqb (countOf objects w) 0) (searched bound 0 0 true) (runOf nodesMost (0 ∷ []) bound 0 0)

@@ -1,5 +1,5 @@
--- The search as a walk of the tree, with what it does written down: the places of the order whose objects it evaluates, and the subtrees that it passes
--- over. Definitions only.
+-- The search as a walk of the tree, with what it does written down: the places of the order whose objects it evaluates,
+-- and the subtrees that it passes over. Definitions only.
 use Prim.Native.Nat.{ℕ, _+_}
 use mathlib.Core.Bool.{cond}
 use mathlib.Core.List.{List, [], _∷_, _++_}
@@ -8,7 +8,7 @@ use Rattle.vec.specs.declared.Vec3.{Vec3}
 use Rattle.sdf.specs.Boxes.{boxDist}
 use Rattle.words.specs.Lists.{listFrom}
 use Rattle.plan.specs.declared.DistHit.{DistHit}
-use Rattle.bvh_rules.specs.Rules.{Tree, leaf, node, hull, weight}
+use Rattle.bvh_rules.specs.Rules.{Tree, leaf, node, hull, weight, place}
 use Rattle.bvh_search.specs.Search.{leafHit}
 
 -- a subtree and the first place of the order under it
@@ -25,9 +25,6 @@ pub record Walk : Type 0 where
 abbrev pub walkFrom : DistHit → Walk
 walkFrom bound = record { best = bound; popped = 0; seen = []; passed = [] }
 
-abbrev pub place : ℕ → ℕ
-place i = i
-
 module _ (o : List ℕ) (w : List ℕ) (f : List Float) (p : Vec3) where
   abbrev pub near : Tree → Float
   near t = boxDist p (hull t)
@@ -38,7 +35,12 @@ module _ (o : List ℕ) (w : List ℕ) (f : List Float) (p : Vec3) where
 
   abbrev pub skip : Tree → ℕ → Walk → Walk
   skip t s σ =
-      record { best = σ .best; popped = σ .popped + 1; seen = σ .seen; passed = record { under = t; first = s } ∷ σ .passed }
+      record {
+        best = σ .best;
+        popped = σ .popped + 1;
+        seen = σ .seen;
+        passed = record { under = t; first = s } ∷ σ .passed;
+      }
 
   abbrev pub evaluate : ℕ → ℕ → Walk → Walk
   evaluate s c σ =

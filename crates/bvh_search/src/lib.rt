@@ -1,16 +1,40 @@
-// The search of a tree for the nearest object: a stack of 64 places, each box worked out once and held as a square, so that few roots are taken.
+// The search of a tree for the nearest object: a stack of 64 places, each box worked out once and held as a square, so
+// that few roots are taken; and a plan's field by the tree or by the list.
 ghost use mathlib.Core.Path.{_≡_};
 ghost use mathlib.Core.List.{[], _∷_};
 ghost use Prim.Native.Nat.{_+_, _-_};
 ghost use lib.ListN.{length, getD, set};
 ghost use lib.Ieee.{nan};
-ghost use Rattle.plan.specs.Nearest.{nearer};
-ghost use Rattle.bvh_search.specs.Search.{pieceIn, leafHit, placesOf, runOf, searchOf};
-ghost use Rattle.bvh_search.specs.Machine.{boxSquare, usual, farOff, partsRoots, leftFirst, holding, ended, popping, nextOf, scannedOf, tables, squareAt, childrenOf, openedOf, steppedOf};
+ghost use Rattle.plan.specs.Nearest.{hitOf};
+ghost use Rattle.bvh_rules.specs.Nodes.{nodesMost, nodesOf, orderOf};
+ghost use Rattle.bvh_search.specs.Search.{pieceIn, leafScan, placesOf, runOf, searchOf};
+ghost use Rattle.bvh_search.specs.Field.{hitBy, fieldBy};
+ghost use Rattle.bvh_search.specs.Inside.Machine.{boxSquare, usual, farOff, partsRoots, leftFirst, holding};
+ghost use Rattle.bvh_search.specs.Inside.Machine.{ended, popping, nextOf, scannedOf, tables, squareAt};
+ghost use Rattle.bvh_search.specs.Inside.Machine.{childrenOf, openedOf, steppedOf};
 use bvh_rules::Node;
 use plan::DistHit;
+use plan::Floats;
+use plan::Words;
 use sdf::Aabb;
 use vec::Vec3;
+
+// The stack's places, and how many may wait where two more are to find room.
+const STACK: usize = 64;
+
+const WAIT_MOST: usize = 62;
+
+// A tree has no more nodes than this to pop, and the order no more places.
+const POPS: u32 = 511;
+
+const PLACES: u32 = 256;
+
+// Whether the search goes on, has ended or has run out of room.
+const GOING: u32 = 0;
+
+const ENDED: u32 = 1;
+
+const FULL: u32 = 2;
 
 // The hit, nodes popped and objects evaluated; `whole` where neither the budget nor the room ran out.
 pub struct Searched {
@@ -20,7 +44,13 @@ pub struct Searched {
     pub whole: bool,
 }
 
-// The node in hand with its key, how many wait, and whether the search goes on (0), has ended (1) or has run out of room (2).
+// A leaf's objects: the best hit, and how many were evaluated.
+pub struct Scan {
+    pub hit: DistHit,
+    pub evaluated: u32,
+}
+
+// The node in hand with its key, how many wait, and how the search stands.
 pub struct State {
     pub at: usize,
     pub key: f32,
@@ -45,12 +75,13 @@ fn usual(x: f32) -> bool
     ensures { λ r. ⌜ r ≡ usual x ⌝ }
 {
     if x > 0.0 {
-        return x <= 3.4028235e38;
+        return x <= refusals::GREATEST;
     }
     false
 }
 
-// Whether the root of a square is at least d: for what is above zero and finite the square is held against d's bar, and no root taken.
+// Whether the root of a square is at least d: for what is above zero and finite the square is held against d's bar, and
+// no root taken.
 fn far_off(s: f32, d: f32) -> bool
     ensures { λ r. ⌜ r ≡ farOff s d ⌝ }
 {
@@ -65,7 +96,8 @@ fn far_off(s: f32, d: f32) -> bool
     root::root(s) >= d
 }
 
-// A guess at a number between the roots of l and r: the root of their mean, by its bits and a step of Newton's method. Nothing rests on it but time.
+// A guess at a number between the roots of l and r: the root of their mean, by its bits and a step of Newton's method.
+// Nothing rests on it but time.
 fn halfway(l: f32, r: f32) -> f32 {
     let m = l * 0.5 + r * 0.5;
     let g = scalar::float(scalar::bits(m) / 2 + 0x1fbd_1df5);
@@ -82,7 +114,8 @@ fn parts(l: f32, r: f32, b: f32) -> bool
     false
 }
 
-// Whether the root of l is less than that of r: no root is taken where r is at most l, and none where the guess lies between the two.
+// Whether the root of l is less than that of r: no root is taken where r is at most l, and none where the guess lies
+// between the two.
 fn left_first(l: f32, r: f32) -> bool
     ensures { λ x. ⌜ x ≡ leftFirst l r ⌝ }
 {
@@ -100,18 +133,18 @@ fn left_first(l: f32, r: f32) -> bool
     root::root(l) < root::root(r)
 }
 
-fn square_at(nw: &[u32; 4599], nf: &[f32; 4599], p: Vec3, at: usize) -> f32
-    ensures { λ r. ⌜ r ≡ squareAt (now (nw .entry)) (now (nf .entry)) p at ⌝ }
+fn square_at(ws: &Words, fs: &Floats, p: Vec3, at: usize) -> f32
+    ensures { λ r. ⌜ r ≡ squareAt (nodesOf (now (ws .entry))) (nodesOf (now (fs .entry))) p at ⌝ }
 {
-    let v = bvh_rules::node_at(nw, nf, at);
+    let v = bvh_rules::node_at(ws, fs, at);
     box_square(p, v.hull)
 }
 
 fn places(v: Node) -> u32
     ensures { λ r. ⌜ r ≡ placesOf v ⌝ }
 {
-    if v.start < 256 {
-        let room = 256 - v.start;
+    if v.start < PLACES {
+        let room = PLACES - v.start;
         if v.count < room {
             return v.count;
         }
@@ -120,44 +153,31 @@ fn places(v: Node) -> u32
     0
 }
 
-fn nearer_in(
-    ow: &[u32; 256],
-    ws: &[u32; 22288],
-    fs: &[f32; 22288],
-    p: Vec3,
-    i: usize,
-    best: DistHit,
-) -> DistHit
-    ensures { λ r. ⌜ r ≡ nearer (pieceIn (now (ws .entry)) (now (fs .entry)) (now (ow .entry)) i) p best ⌝ }
+// The hit of the object at place i of the order.
+fn hit_in(ws: &Words, fs: &Floats, p: Vec3, i: usize) -> DistHit
+    ensures { λ r. ⌜ r ≡ hitOf (pieceIn (now (ws .entry)) (now (fs .entry)) (orderOf (now (ws .entry))) i) p ⌝ }
 {
-    plan::nearer(ws, fs, 113 + bvh_rules::order_at(ow, i) as usize, p, best)
+    let o = bvh_rules::order_at(ws, i);
+    plan::hit_of(ws, fs, plan::OBJECT_ROW as usize + o as usize, p)
 }
 
 // The best of a hit and c objects from place s of the order on.
-fn leaf_hit(
-    ow: &[u32; 256],
-    ws: &[u32; 22288],
-    fs: &[f32; 22288],
-    p: Vec3,
-    s: u32,
-    c: u32,
-    best: DistHit,
-) -> DistHit
-    ensures { λ r. ⌜ r ≡ leafHit (now (ws .entry)) (now (fs .entry)) (now (ow .entry)) p s c best ⌝ }
+fn leaf_hit(ws: &Words, fs: &Floats, p: Vec3, s: u32, c: u32, best: DistHit) -> Scan
+    ensures { λ r. ⌜ r ≡ leafScan (now (ws .entry)) (now (fs .entry)) (orderOf (now (ws .entry))) p s c best ⌝ }
 {
     let mut hit = best;
     let mut j: u32 = 0;
     while j < c {
-        hit = nearer_in(ow, ws, fs, p, s as usize + j as usize, hit);
+        hit = plan::closer(hit, hit_in(ws, fs, p, s as usize + j as usize));
         j += 1;
     }
-    hit
+    Scan { hit, evaluated: c }
 }
 
 fn place_in(stack: &[usize; 64], k: usize) -> usize
     ensures { λ r. ⌜ r ≡ getD (now (stack .entry)) k 0 ⌝ }
 {
-    if k < 64 {
+    if k < STACK {
         return stack[k];
     }
     let _stack: &[usize] = stack;
@@ -167,7 +187,7 @@ fn place_in(stack: &[usize; 64], k: usize) -> usize
 fn key_in(keys: &[f32; 64], k: usize) -> f32
     ensures { λ r. ⌜ r ≡ getD (now (keys .entry)) k nan ⌝ }
 {
-    if k < 64 {
+    if k < STACK {
         return keys[k];
     }
     let _keys: &[f32] = keys;
@@ -225,7 +245,7 @@ fn next(stack: &[usize; 64], keys: &[f32; 64], s: State) -> State
     ensures { λ r. ⌜ r ≡ nextOf (now (stack .entry)) (now (keys .entry)) s ⌝ }
 {
     if s.sp == 0 {
-        return ended(s, 1);
+        return ended(s, ENDED);
     }
     let sp = s.sp - 1;
     holding(s, place_in(stack, sp), key_in(keys, sp), sp)
@@ -233,26 +253,26 @@ fn next(stack: &[usize; 64], keys: &[f32; 64], s: State) -> State
 
 // A leaf's objects evaluated, and the next node in hand.
 fn scanned(
-    ow: &[u32; 256],
-    ws: &[u32; 22288],
-    fs: &[f32; 22288],
+    ws: &Words,
+    fs: &Floats,
     p: Vec3,
     stack: &[usize; 64],
     keys: &[f32; 64],
     s: State,
     v: Node,
 ) -> State
-    ensures { λ r. ⌜ r ≡ scannedOf (now (ow .entry)) (now (ws .entry)) (now (fs .entry)) p (now (stack .entry)) (now (keys .entry)) s v ⌝ }
+    ensures { λ r. ⌜ r ≡ scannedOf (orderOf (now (ws .entry)))
+        (now (ws .entry)) (now (fs .entry)) p (now (stack .entry)) (now (keys .entry)) s v ⌝ }
 {
-    let c = places(v);
-    let hit = leaf_hit(ow, ws, fs, p, v.start, c, s.hit);
+    let seen = leaf_hit(ws, fs, p, v.start, places(v), s.hit);
+    let hit = seen.hit;
     let after = State {
         at: s.at,
         key: s.key,
         sp: s.sp,
         hit,
         popped: s.popped,
-        evaluated: std::num::wrapping_add_u32(s.evaluated, c),
+        evaluated: std::num::wrapping_add_u32(s.evaluated, seen.evaluated),
         done: s.done,
     };
     next(stack, keys, after)
@@ -260,9 +280,10 @@ fn scanned(
 
 // A node with its key, waiting at place sp.
 fn wait(stack: &mut [usize; 64], keys: &mut [f32; 64], sp: usize, at: usize, key: f32)
-    ensures { λ _. ⌜ (now (stack .exit) ≡ set (now (stack .entry)) sp at) × (now (keys .exit) ≡ set (now (keys .entry)) sp key) ⌝ }
+    ensures { λ _. ⌜ (now (stack .exit) ≡ set (now (stack .entry)) sp at)
+        × (now (keys .exit) ≡ set (now (keys .entry)) sp key) ⌝ }
 {
-    if sp < 64 {
+    if sp < STACK {
         stack[sp] = at;
         keys[sp] = key;
         return;
@@ -273,8 +294,8 @@ fn wait(stack: &mut [usize; 64], keys: &mut [f32; 64], sp: usize, at: usize, key
 
 // The children of the node in hand: the nearer one in hand, the farther one waiting.
 fn children(
-    nw: &[u32; 4599],
-    nf: &[f32; 4599],
+    ws: &Words,
+    fs: &Floats,
     p: Vec3,
     stack: &mut [usize; 64],
     keys: &mut [f32; 64],
@@ -282,13 +303,15 @@ fn children(
     l: usize,
     r: usize,
 ) -> State
-    ensures { λ x. ⌜ tables (now (stack .exit)) (now (keys .exit)) x ≡ childrenOf (now (nw .entry)) (now (nf .entry)) p (now (stack .entry)) (now (keys .entry)) s l r ⌝ }
+    ensures { λ x. ⌜ tables (now (stack .exit)) (now (keys .exit)) x
+        ≡ childrenOf (nodesOf (now (ws .entry))) (nodesOf (now (fs .entry)))
+        p (now (stack .entry)) (now (keys .entry)) s l r ⌝ }
 {
-    if s.sp > 62 {
-        return ended(s, 2);
+    if s.sp > WAIT_MOST {
+        return ended(s, FULL);
     }
-    let kl = square_at(nw, nf, p, l);
-    let kr = square_at(nw, nf, p, r);
+    let kl = square_at(ws, fs, p, l);
+    let kr = square_at(ws, fs, p, r);
     if left_first(kl, kr) {
         wait(stack, keys, s.sp, r, kr);
         return holding(s, l, kl, s.sp + 1);
@@ -299,95 +322,88 @@ fn children(
 
 // The node in hand, near enough.
 fn opened(
-    nw: &[u32; 4599],
-    nf: &[f32; 4599],
-    ow: &[u32; 256],
-    ws: &[u32; 22288],
-    fs: &[f32; 22288],
+    ws: &Words,
+    fs: &Floats,
     p: Vec3,
     stack: &mut [usize; 64],
     keys: &mut [f32; 64],
     s: State,
     v: Node,
 ) -> State
-    ensures { λ x. ⌜ tables (now (stack .exit)) (now (keys .exit)) x ≡ openedOf (now (nw .entry)) (now (nf .entry)) (now (ow .entry)) (now (ws .entry)) (now (fs .entry)) p (now (stack .entry)) (now (keys .entry)) s v ⌝ }
+    ensures { λ x. ⌜ tables (now (stack .exit)) (now (keys .exit)) x
+        ≡ openedOf (nodesOf (now (ws .entry))) (nodesOf (now (fs .entry))) (orderOf (now (ws .entry)))
+        (now (ws .entry)) (now (fs .entry)) p (now (stack .entry)) (now (keys .entry)) s v ⌝ }
 {
-    if s.at < 511 {
+    if s.at < bvh_rules::NODES_MOST {
         if v.count == 0 {
-            return children(nw, nf, p, stack, keys, s, s.at + 1, v.right as usize);
+            return children(ws, fs, p, stack, keys, s, s.at + 1, v.right as usize);
         }
-        return scanned(ow, ws, fs, p, stack, keys, s, v);
+        return scanned(ws, fs, p, stack, keys, s, v);
     }
     next(stack, keys, s)
 }
 
 // One pop.
 fn step(
-    nw: &[u32; 4599],
-    nf: &[f32; 4599],
-    ow: &[u32; 256],
-    ws: &[u32; 22288],
-    fs: &[f32; 22288],
+    ws: &Words,
+    fs: &Floats,
     p: Vec3,
     stack: &mut [usize; 64],
     keys: &mut [f32; 64],
     s: State,
 ) -> State
-    ensures { λ x. ⌜ tables (now (stack .exit)) (now (keys .exit)) x ≡ steppedOf (now (nw .entry)) (now (nf .entry)) (now (ow .entry)) (now (ws .entry)) (now (fs .entry)) p (now (stack .entry)) (now (keys .entry)) s ⌝ }
+    ensures { λ x. ⌜ tables (now (stack .exit)) (now (keys .exit)) x
+        ≡ steppedOf (nodesOf (now (ws .entry))) (nodesOf (now (fs .entry))) (orderOf (now (ws .entry)))
+        (now (ws .entry)) (now (fs .entry)) p (now (stack .entry)) (now (keys .entry)) s ⌝ }
 {
     let hit = s.hit;
     if far_off(s.key, hit.d) {
         return next(stack, keys, popping(s));
     }
     opened(
-        nw,
-        nf,
-        ow,
         ws,
         fs,
         p,
         stack,
         keys,
         popping(s),
-        bvh_rules::node_at(nw, nf, s.at),
+        bvh_rules::node_at(ws, fs, s.at),
     )
 }
 
 // From the root on, with the tables lent.
 fn run(
-    nw: &[u32; 4599],
-    nf: &[f32; 4599],
-    ow: &[u32; 256],
-    ws: &[u32; 22288],
-    fs: &[f32; 22288],
+    ws: &Words,
+    fs: &Floats,
     p: Vec3,
     bound: DistHit,
     stack: &mut [usize; 64],
     keys: &mut [f32; 64],
 ) -> Searched
-    ensures { λ r. ⌜ r ≡ runOf (now (nw .entry)) (now (nf .entry)) (now (ow .entry)) (now (ws .entry)) (now (fs .entry)) p 511 (0 ∷ []) bound 0 0 ⌝ }
+    ensures { λ r. ⌜ r ≡ runOf (nodesOf (now (ws .entry))) (nodesOf (now (fs .entry))) (orderOf (now (ws .entry)))
+        (now (ws .entry)) (now (fs .entry)) p nodesMost (0 ∷ []) bound 0 0 ⌝ }
 {
     // Only as a slice does a table tell the proof its length.
     let _stack: &[usize] = stack;
     let _keys: &[f32] = keys;
     let mut s = State {
         at: 0,
-        key: square_at(nw, nf, p, 0),
+        key: square_at(ws, fs, p, 0),
         sp: 0,
         hit: bound,
         popped: 0,
         evaluated: 0,
-        done: 0,
+        done: GOING,
     };
-    while s.popped < 511 {
-        s = step(nw, nf, ow, ws, fs, p, stack, keys, s);
-        if s.done > 0 {
+    while s.popped < POPS {
+        s = step(ws, fs, p, stack, keys, s);
+        if s.done > GOING {
             let hit = s.hit;
             return Searched {
                 hit,
                 popped: s.popped,
                 evaluated: s.evaluated,
-                whole: s.done == 1,
+                whole: s.done == ENDED,
             };
         }
     }
@@ -401,18 +417,11 @@ fn run(
 }
 
 // The nearest object by the tree, from a bound with its material.
-pub fn search(
-    nw: &[u32; 4599],
-    nf: &[f32; 4599],
-    ow: &[u32; 256],
-    ws: &[u32; 22288],
-    fs: &[f32; 22288],
-    p: Vec3,
-    bound: DistHit,
-) -> Searched
-    ensures { λ r. ⌜ r ≡ searchOf (now (nw .entry)) (now (nf .entry)) (now (ow .entry)) (now (ws .entry)) (now (fs .entry)) p bound ⌝ }
+pub fn search(ws: &Words, fs: &Floats, p: Vec3, bound: DistHit) -> Searched
+    ensures { λ r. ⌜ r ≡ searchOf (nodesOf (now (ws .entry))) (nodesOf (now (fs .entry))) (orderOf (now (ws .entry)))
+        (now (ws .entry)) (now (fs .entry)) p bound ⌝ }
 {
-    if ws[3] == 0 {
+    if ws[plan::COUNT_OBJECTS] == 0 {
         return Searched {
             hit: bound,
             popped: 0,
@@ -420,7 +429,30 @@ pub fn search(
             whole: true,
         };
     }
-    let mut stack = [0usize; 64];
-    let mut keys = [0.0f32; 64];
-    run(nw, nf, ow, ws, fs, p, bound, &mut stack, &mut keys)
+    let mut stack = [0usize; STACK];
+    let mut keys = [0.0f32; STACK];
+    run(ws, fs, p, bound, &mut stack, &mut keys)
+}
+
+// The nearest object from a bound: by the tree where it is 1, and else by the list, which evaluates every object.
+pub fn hit(tree: u32, ws: &Words, fs: &Floats, p: Vec3, bound: DistHit) -> Searched
+    ensures { λ r. ⌜ r ≡ hitBy tree (now (ws .entry)) (now (fs .entry)) p bound ⌝ }
+{
+    if tree == 1 {
+        return search(ws, fs, p, bound);
+    }
+    Searched {
+        hit: plan::query_linear(ws, fs, p, bound),
+        popped: 0,
+        evaluated: ws[plan::COUNT_OBJECTS],
+        whole: true,
+    }
+}
+
+// The source's `dist_mat`: planes, then objects.
+pub fn field(tree: u32, ws: &Words, fs: &Floats, p: Vec3) -> DistHit
+    ensures { λ r. ⌜ r ≡ fieldBy tree (now (ws .entry)) (now (fs .entry)) p ⌝ }
+{
+    let s = hit(tree, ws, fs, p, plan::planes_hit(ws, fs, p));
+    s.hit
 }

@@ -1,5 +1,5 @@
 -- `bvh_search::box_square` meets its contract. Assumes nothing.
-use Rattle.bvh_search.specs.Machine.{boxSquare}
+use Rattle.bvh_search.specs.Inside.Machine.{boxSquare}
 use borrow.Author.Needs.{needs}
 use Rattle.bvh_search.proofs.box_square.Statement.{statement}
 use Rattle.bvh_search.proofs.box_square.Tie as tie

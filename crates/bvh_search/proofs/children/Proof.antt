@@ -1,5 +1,5 @@
 -- `bvh_search::children` meets its contract: a return for each case. Assumes nothing.
-use Rattle.bvh_search.specs.Machine.{childrenOf}
+use Rattle.bvh_search.specs.Inside.Machine.{childrenOf}
 use mathlib.Core.Path.{sym}
 use borrow.Author.Tests.{lt-ltb, le-ltb}
 use borrow.Author.Needs.{needs}

@@ -2,7 +2,7 @@
 use mathlib.Core.Path.{sym, _∙_, subst}
 use lib.Dec.{T}
 use lib.Ieee.{binary32, fits}
-use Rattle.bvh_search.specs.Machine.{farOff}
+use Rattle.bvh_search.specs.Inside.Machine.{farOff}
 use Rattle.bvh_search.proofs.Squares.{far-by-bar, far-above}
 use borrow.Author.Needs.{needs}
 use Rattle.bvh_search.proofs.far_off.Statement.{statement}

@@ -2,7 +2,7 @@
 use mathlib.Core.Path.{sym, _∙_, subst}
 use lib.Dec.{T}
 use lib.Ieee.{binary32, fits}
-use Rattle.bvh_search.specs.Machine.{leftFirst}
+use Rattle.bvh_search.specs.Inside.Machine.{leftFirst}
 use Rattle.bvh_search.proofs.Squares.{right-first, parted, by-far}
 use borrow.Author.Needs.{needs}
 use Rattle.bvh_search.proofs.left_first.Statement.{statement}

@@ -1,5 +1,5 @@
 -- `bvh_search::next` meets its contract. Assumes nothing.
-use Rattle.bvh_search.specs.Machine.{nextOf}
+use Rattle.bvh_search.specs.Inside.Machine.{nextOf}
 use borrow.Author.Tests.{eq-eqb, ne-eqb}
 use borrow.Author.Needs.{needs}
 use Rattle.bvh_search.proofs.next.Statement.{statement}

@@ -1,6 +1,6 @@
 -- `bvh_search::opened` meets its contract: a return for each case. Assumes nothing.
 use borrow.Author.Tests.{lt-ltb, le-ltb, eq-eqb, ne-eqb}
-use Rattle.bvh_search.specs.Machine.{openedOf}
+use Rattle.bvh_search.specs.Inside.Machine.{openedOf}
 use borrow.Author.Needs.{needs}
 use Rattle.bvh_search.proofs.opened.Statement.{statement}
 use Rattle.bvh_search.proofs.opened.Tie as tie

@@ -1,6 +1,6 @@
 -- `bvh_search::parts` meets its contract. Assumes nothing.
 use mathlib.Core.Path.{sym}
-use Rattle.bvh_search.specs.Machine.{partsRoots}
+use Rattle.bvh_search.specs.Inside.Machine.{partsRoots}
 use borrow.Author.Needs.{needs}
 use Rattle.bvh_search.proofs.parts.Statement.{statement}
 use Rattle.bvh_search.proofs.parts.Tie as tie

@@ -4,16 +4,19 @@ use Prim.Native.Nat.{_-_}
 use mathlib.Core.Path.{refl}
 use mathlib.Core.List.{[], _∷_}
 use native.Mathlib.Omega.{arith}
+use Rattle.bvh_rules.specs.Nodes.{nodesMost, nodesOf, orderOf}
 use Rattle.bvh_search.specs.Search.{runOf}
 use Rattle.bvh_search.proofs.Machine.{Busy, step-law, ran-out}
 use Rattle.bvh_search.proofs.run.Statement.{statement}
 use Rattle.bvh_search.proofs.run.Tie as tie
 
 abbrev Inv-loop : tie.InvT-loop
-Inv-loop nw nf ow ws fs p stack₀ keys₀ s₀ stack keys s = Busy nw nf ow ws fs p (runOf nw nf ow ws fs p 511 (0 ∷ []) (s₀ .hit) 0 0) stack keys s
+Inv-loop ws fs p stack₀ keys₀ s₀ stack keys s =
+    Busy (nodesOf ws) (nodesOf fs) (orderOf ws) ws fs p
+    (runOf (nodesOf ws) (nodesOf fs) (orderOf ws) ws fs p nodesMost (0 ∷ []) (s₀ .hit) 0 0) stack keys s
 
 abbrev μ-loop : tie.MeasureT-loop
-μ-loop nw nf ow ws fs p stack₀ keys₀ s₀ stack keys s = 511 - s .popped
+μ-loop ws fs p stack₀ keys₀ s₀ stack keys s = nodesMost - s .popped
 
 loop-holds : tie.Need-loop-holds Inv-loop μ-loop
 loop-holds c = record {

@@ -1,5 +1,5 @@
 -- `bvh_search::square_at` meets its contract. Assumes nothing.
-use Rattle.bvh_search.specs.Machine.{squareAt}
+use Rattle.bvh_search.specs.Inside.Machine.{squareAt}
 use borrow.Author.Needs.{needs}
 use Rattle.bvh_search.proofs.square_at.Statement.{statement}
 use Rattle.bvh_search.proofs.square_at.Tie as tie

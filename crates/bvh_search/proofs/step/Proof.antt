@@ -1,6 +1,6 @@
 -- `bvh_search::step` meets its contract. Assumes nothing.
 use mathlib.Core.Path.{sym}
-use Rattle.bvh_search.specs.Machine.{steppedOf}
+use Rattle.bvh_search.specs.Inside.Machine.{steppedOf}
 use borrow.Author.Needs.{needs}
 use Rattle.bvh_search.proofs.step.Statement.{statement}
 use Rattle.bvh_search.proofs.step.Tie as tie

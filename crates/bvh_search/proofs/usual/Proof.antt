@@ -1,5 +1,5 @@
 -- `bvh_search::usual` meets its contract. Assumes nothing.
-use Rattle.bvh_search.specs.Machine.{usual}
+use Rattle.bvh_search.specs.Inside.Machine.{usual}
 use Rattle.bvh_search.proofs.usual.Statement.{statement}
 use Rattle.bvh_search.proofs.usual.Tie as tie
 

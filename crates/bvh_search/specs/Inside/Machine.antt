@@ -1,5 +1,5 @@
--- The search as the code holds it: the node in hand with the square of its box distance, and the others in two tables of 64 places, the last on top.
--- Definitions only; that it comes to `runOf` is shown in proofs/Machine.antt.
+-- The search as the code holds it: the node in hand with the square of its box distance, and the others in two tables
+-- of 64 places, the last on top. Definitions only; that it comes to `runOf` is shown in proofs/Machine.antt.
 use Prim.Native.Nat.{ℕ, _+_, _-_, _%_, _^_}
 use mathlib.Core.Bool.{Bool, false, not, cond}
 use mathlib.Core.List.{List}
@@ -12,11 +12,11 @@ use Rattle.vec.specs.declared.Vec3.{Vec3}
 use Rattle.vec.specs.Vec.{vsplat, vsub, vmax, vdot}
 use Rattle.sdf.specs.declared.Aabb.{Aabb}
 use Rattle.refusals.specs.Ranges.{greatest}
-use Rattle.plan.specs.declared.DistHit.{DistHit}
 use Rattle.bvh_rules.specs.declared.Node.{Node}
-use Rattle.bvh_rules.specs.Nodes.{nodeAt}
+use Rattle.bvh_rules.specs.Nodes.{nodesMost, nodeAt}
+use Rattle.bvh_search.specs.declared.Scan.{Scan}
 use Rattle.bvh_search.specs.declared.State.{State}
-use Rattle.bvh_search.specs.Search.{leafHit, placesOf}
+use Rattle.bvh_search.specs.Search.{leafScan, placesOf}
 
 -- the square of a box distance
 abbrev pub gapOf : Vec3 → Aabb → Vec3
@@ -46,19 +46,44 @@ holding s a key sp =
 
 abbrev pub ended : State → ℕ → State
 ended s how =
-    record { at = s .at; key = s .key; sp = s .sp; hit = s .hit; popped = s .popped; evaluated = s .evaluated; done = how }
+    record {
+      at = s .at;
+      key = s .key;
+      sp = s .sp;
+      hit = s .hit;
+      popped = s .popped;
+      evaluated = s .evaluated;
+      done = how;
+    }
 
 abbrev pub popping : State → State
 popping s =
-    record { at = s .at; key = s .key; sp = s .sp; hit = s .hit; popped = (s .popped + 1) % 2 ^ 32; evaluated = s .evaluated; done = s .done }
+    record {
+      at = s .at;
+      key = s .key;
+      sp = s .sp;
+      hit = s .hit;
+      popped = (s .popped + 1) % 2 ^ 32;
+      evaluated = s .evaluated;
+      done = s .done;
+    }
 
-abbrev pub scanned : State → DistHit → ℕ → State
-scanned s h c =
-    record { at = s .at; key = s .key; sp = s .sp; hit = h; popped = s .popped; evaluated = (s .evaluated + c) % 2 ^ 32; done = s .done }
+abbrev pub scanned : State → Scan → State
+scanned s x =
+    record {
+      at = s .at;
+      key = s .key;
+      sp = s .sp;
+      hit = x .hit;
+      popped = s .popped;
+      evaluated = (s .evaluated + x .evaluated) % 2 ^ 32;
+      done = s .done;
+    }
 
 -- the next waiting node in hand, or the end
 unfoldable pub nextOf : List ℕ → List Float → State → State
-nextOf stack keys s = cond (eqb (s .sp) 0) (ended s 1) (holding s (getD stack (s .sp - 1) 0) (getD keys (s .sp - 1) nan) (s .sp - 1))
+nextOf stack keys s =
+    cond (eqb (s .sp) 0) (ended s 1) (holding s (getD stack (s .sp - 1) 0) (getD keys (s .sp - 1) nan) (s .sp - 1))
 
 pub record Tables : Type 0 where
   pub stack : List ℕ
@@ -84,13 +109,13 @@ childrenOf nw nf p stack keys s l r =
     (twoOf stack keys s l (squareAt nw nf p l) r (squareAt nw nf p r)))
 
 unfoldable pub scannedOf : List ℕ → List ℕ → List Float → Vec3 → List ℕ → List Float → State → Node → State
-scannedOf o w f p stack keys s v = nextOf stack keys (scanned s (leafHit w f o p (v .start) (placesOf v) (s .hit)) (placesOf v))
+scannedOf o w f p stack keys s v = nextOf stack keys (scanned s (leafScan w f o p (v .start) (placesOf v) (s .hit)))
 
 module _ (nw : List ℕ) (nf : List Float) (o : List ℕ) (w : List ℕ) (f : List Float) (p : Vec3) where
   -- the node in hand, near enough
   unfoldable pub openedOf : List ℕ → List Float → State → Node → Tables
   openedOf stack keys s v =
-      cond (ltb (s .at) 511)
+      cond (ltb (s .at) nodesMost)
       (cond (eqb (v .count) 0)
       (childrenOf nw nf p stack keys s (s .at + 1) (v .right))
       (tables stack keys (scannedOf o w f p stack keys s v)))

@@ -1,0 +1,16 @@
+-- `bvh_search::hit_in` meets its contract. Assumes nothing.
+use Rattle.bvh_search.specs.Search.{pieceIn}
+use borrow.Author.Needs.{needs}
+use Rattle.bvh_search.proofs.hit_in.Statement.{statement}
+use Rattle.bvh_search.proofs.hit_in.Tie as tie
+
+returns : tie.Need-returns
+unfolding pieceIn
+returns c = cc
+
+pub hit-in-spec : {M : Type 1} → statement M
+hit-in-spec =
+    tie.close
+    (tie.spec
+    (λ c κs. search needs) (λ c. search needs) (λ c. search needs) (λ c. search needs) (λ c κs. search needs)
+    returns)
