@@ -66,7 +66,10 @@ pub fn prim_dist(before: u32, kind: u32, a: Vec3, b: Vec3, u: f32, v: f32, p: Ve
     let s = refusals::shape_of(kind, a, b, u, v);
     let given = refusals::lower(
         refusals::prim_number(kind, s),
-        refusals::unless(refusals::BAD_NUMBER, refusals::within(p, refusals::FARTHEST)),
+        refusals::unless(
+            refusals::BAD_NUMBER,
+            refusals::within(p, refusals::FARTHEST),
+        ),
     );
     float_reply(refusals::lower(before, given), s.dist(p))
 }
@@ -75,7 +78,10 @@ pub fn prim_bounds(before: u32, kind: u32, a: Vec3, b: Vec3, u: f32, v: f32) -> 
     ensures { λ r. ⌜ r ≡ primBoundsReply before kind (shapeOf kind a b u v) ⌝ }
 {
     let s = refusals::shape_of(kind, a, b, u, v);
-    box_reply(refusals::lower(before, refusals::prim_number(kind, s)), s.bounds())
+    box_reply(
+        refusals::lower(before, refusals::prim_number(kind, s)),
+        s.bounds(),
+    )
 }
 
 // Whether a number is sent whatever else applies from k on.
@@ -110,12 +116,18 @@ fn query_number(before: u32, ws: &Words, fs: &Floats) -> u32
     ensures { λ r. ⌜ r ≡ queryNumber before (now (ws .entry)) (now (fs .entry)) ⌝ }
 {
     let given = refusals::both(
-        refusals::within(plan::vec_at(fs, plan::ARGS_ROW as usize, 0), refusals::FARTHEST),
+        refusals::within(
+            plan::vec_at(fs, plan::ARGS_ROW as usize, 0),
+            refusals::FARTHEST,
+        ),
         scalar::magnitude(fs[plan::ARGS + 3], refusals::GREATEST),
     );
     refusals::lower(
         before,
-        refusals::lower(refusals::unless(refusals::BAD_NUMBER, given), plan_test::objects_number(ws, fs)),
+        refusals::lower(
+            refusals::unless(refusals::BAD_NUMBER, given),
+            plan_test::objects_number(ws, fs),
+        ),
     )
 }
 
@@ -140,8 +152,14 @@ fn dist_mat_number(before: u32, ws: &Words, fs: &Floats) -> u32
     ensures { λ r. ⌜ r ≡ distMatNumber before (now (ws .entry)) (now (fs .entry)) ⌝ }
 {
     let s = plan_test::judge_solids(ws, fs);
-    let given = refusals::within(plan::vec_at(fs, plan::ARGS_ROW as usize, 0), refusals::FARTHEST);
-    refusals::lower(before, refusals::lower(refusals::unless(refusals::BAD_NUMBER, given), s.number))
+    let given = refusals::within(
+        plan::vec_at(fs, plan::ARGS_ROW as usize, 0),
+        refusals::FARTHEST,
+    );
+    refusals::lower(
+        before,
+        refusals::lower(refusals::unless(refusals::BAD_NUMBER, given), s.number),
+    )
 }
 
 // The source's `dist_mat`: planes, then objects.

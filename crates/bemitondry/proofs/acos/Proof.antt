@@ -1,0 +1,16 @@
+-- `bemitondry::acos` meets its contract, by those of its calls. Assumes nothing.
+use Rattle.bemitondry.specs.Calls.{acosReply}
+use borrow.Author.Needs.{needs}
+use Rattle.bemitondry.proofs.acos.Statement.{statement}
+use Rattle.bemitondry.proofs.acos.Tie as tie
+
+returns : tie.Need-returns
+unfolding acosReply
+returns c = cc
+
+pub acos-spec : {M : Type 1} → statement M
+acos-spec =
+    tie.close
+    (tie.spec
+    (λ c κs. search needs) (λ c κs. search needs) (λ c κs. search needs) (λ c κs. search needs)
+    (λ c κs. search needs) returns)

@@ -1,0 +1,16 @@
+-- `bemitondry::prim_bounds` meets its contract, by those of its calls. Assumes nothing.
+use Rattle.bemitondry.specs.Calls.{primBoundsReply}
+use borrow.Author.Needs.{needs}
+use Rattle.bemitondry.proofs.prim_bounds.Statement.{statement}
+use Rattle.bemitondry.proofs.prim_bounds.Tie as tie
+
+returns : tie.Need-returns
+unfolding primBoundsReply
+returns c = cc
+
+pub prim-bounds-spec : {M : Type 1} → statement M
+prim-bounds-spec =
+    tie.close
+    (tie.spec
+    (λ c κs. search needs) (λ c κs. search needs) (λ c κs. search needs) (λ c κs. search needs)
+    (λ c κs. search needs) returns)

@@ -1,0 +1,16 @@
+-- `bemitondry::root` meets its contract, by those of its calls. Assumes nothing.
+use Rattle.bemitondry.specs.Calls.{rootReply}
+use borrow.Author.Needs.{needs}
+use Rattle.bemitondry.proofs.root.Statement.{statement}
+use Rattle.bemitondry.proofs.root.Tie as tie
+
+returns : tie.Need-returns
+unfolding rootReply
+returns c = cc
+
+pub root-spec : {M : Type 1} → statement M
+root-spec =
+    tie.close
+    (tie.spec
+    (λ c κs. search needs) (λ c κs. search needs) (λ c κs. search needs) (λ c κs. search needs)
+    (λ c κs. search needs) returns)
