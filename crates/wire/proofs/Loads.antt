@@ -73,3 +73,7 @@ table-loaded plan args nodes order none w w1 w2 w3 w4 w5 l z e1 e2 e3 e4 e5 =
 
 pub floats-long : (w : List ℕ) (f : List Float) (n : ℕ) → f ≡ floatsOf w n → n ≡ 27296 → f ≡ floatsOf w 27296
 floats-long w f n e l = e ∙ ap (floatsOf w) l
+
+-- a table of what stands for four tables is the table of those
+pub table-by : (p a n o p′ a′ n′ o′ w : List ℕ) → p ≡ p′ → a ≡ a′ → n ≡ n′ → o ≡ o′ → w ≡ tableOf p a n o → w ≡ tableOf p′ a′ n′ o′
+table-by p a n o p′ a′ n′ o′ w ep ea en eo e = rw (← ep, ← ea, ← en, ← eo) e

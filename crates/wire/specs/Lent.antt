@@ -49,3 +49,12 @@ loadedPart t w from to =
 unfoldable pub tableOf : List ℕ → List ℕ → List ℕ → List ℕ → List ℕ
 tableOf plan args nodes order =
     (((wordsOf plan 22288 ++ wordsOf args 144) ++ wordsOf nodes 4599) ++ wordsOf order 256) ++ wordsOf [] 9
+
+-- of a call on the plan that reads `need` bytes of arguments
+unfoldable pub planTable : ℕ → List ℕ → List ℕ → List ℕ
+planTable need plan args = tableOf (lentOf plan planBytes) (lentOf args need) [] []
+
+-- of a call that asks by the tree or by the list
+unfoldable pub askTable : ℕ → List ℕ → List ℕ → List ℕ → ℕ → List ℕ → List ℕ
+askTable need plan nodes order tree args =
+    tableOf (lentOf plan planBytes) (lentOf args need) (usedOf tree nodes nodesBytes) (usedOf tree order orderBytes)

@@ -25,6 +25,10 @@ tablesBefore nodes order = lower (shortNumber nodes nodesBytes) (shortNumber ord
 unfoldable pub treeBefore : ℕ → ℕ → ℕ → ℕ
 treeBefore tree nodes order = cond (eqb tree 1) (tablesBefore nodes order) (unless badNumber (eqb tree 0))
 
+-- a call that asks
+unfoldable pub askBefore : ℕ → ℕ → ℕ → ℕ → ℕ → ℕ → ℕ → ℕ
+askBefore need plan nodes order tree args out = lower (planBefore plan need args out) (treeBefore tree nodes order)
+
 -- ---- what is left
 -- the first n words of a table, where they are to be stored
 unfoldable pub storedPart : Bool → List ℕ → ℕ → List ℕ → List ℕ

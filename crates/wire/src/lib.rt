@@ -2,8 +2,8 @@
 ghost use mathlib.Core.Path.{_≡_};
 ghost use mathlib.Core.List.{[]};
 ghost use Rattle.plan.specs.Plan.{seen};
-ghost use Rattle.wire.specs.Lent.{shortNumber, lentOf, usedOf, givenFloat, givenVec, loadedPart, tableOf};
-ghost use Rattle.wire.specs.Sent.{argsBefore, planBefore, tablesBefore, treeBefore, storedPart, clearedFront, cleared, Sent};
+ghost use Rattle.wire.specs.Lent.{shortNumber, lentOf, usedOf, givenFloat, givenVec, loadedPart, tableOf, planTable, askTable};
+ghost use Rattle.wire.specs.Sent.{argsBefore, planBefore, tablesBefore, treeBefore, askBefore, storedPart, clearedFront, cleared, Sent};
 use plan::Floats;
 use plan::Words;
 use reply::Reply;
@@ -95,6 +95,48 @@ pub fn load(plan: &[u8], args: &[u8], nodes: &[u8], order: &[u8], ws: &mut Words
     words::floats(ws, fs);
 }
 
+// What a call on the plan works on: `need` is how many bytes of arguments it reads.
+pub fn load_plan(need: usize, plan: &[u8], args: &[u8], ws: &mut Words, fs: &mut Floats)
+    ensures { λ _.
+        ⌜ (now (ws .exit) ≡ planTable need (now (plan .entry)) (now (args .entry)))
+        × (now (fs .exit) ≡ seen (now (ws .exit))) ⌝ }
+{
+    load(
+        lent(plan, PLAN_BYTES),
+        lent(args, need),
+        none(plan),
+        none(plan),
+        ws,
+        fs,
+    );
+}
+
+// What a call works on that asks by the tree or by the list.
+pub fn load_ask(
+    need: usize,
+    plan: &[u8],
+    nodes: &[u8],
+    order: &[u8],
+    tree: u32,
+    args: &[u8],
+    ws: &mut Words,
+    fs: &mut Floats,
+)
+    ensures { λ _.
+        ⌜ (now (ws .exit)
+        ≡ askTable need (now (plan .entry)) (now (nodes .entry)) (now (order .entry)) tree (now (args .entry)))
+        × (now (fs .exit) ≡ seen (now (ws .exit))) ⌝ }
+{
+    load(
+        lent(plan, PLAN_BYTES),
+        lent(args, need),
+        used(tree, nodes, NODES_BYTES),
+        used(tree, order, ORDER_BYTES),
+        ws,
+        fs,
+    );
+}
+
 // What applies by the lengths of arguments and answer.
 pub fn args_before(need: usize, args: usize, out: usize) -> u32
     ensures { λ r. ⌜ r ≡ argsBefore need args out ⌝ }
@@ -124,6 +166,23 @@ pub fn tree_before(tree: u32, nodes: usize, order: usize) -> u32
         return tables_before(nodes, order);
     }
     refusals::unless(refusals::BAD_NUMBER, tree == 0)
+}
+
+pub fn ask_before(
+    need: usize,
+    plan: usize,
+    nodes: usize,
+    order: usize,
+    tree: u32,
+    args: usize,
+    out: usize,
+) -> u32
+    ensures { λ r. ⌜ r ≡ askBefore need plan nodes order tree args out ⌝ }
+{
+    refusals::lower(
+        plan_before(plan, need, args, out),
+        tree_before(tree, nodes, order),
+    )
 }
 
 // The first words of a table of words are stored.

@@ -1,0 +1,20 @@
+-- `viewer_dist_mat` meets its contract: what is sent is the call's reply. Assumes nothing.
+use Rattle.bemitondry.specs.Calls.{distMatReply}
+use Rattle.viewer.proofs.Lent.{ask-sent}
+use borrow.Author.Needs.{needs}
+use Rattle.viewer.proofs.viewer_dist_mat.Statement.{statement}
+use Rattle.viewer.proofs.viewer_dist_mat.Tie as tie
+
+returns : tie.Need-returns
+returns c =
+    let s = c .before .before in
+    let r = s .before .before in
+    let l = r .before .before .before in
+    ask-sent distMatReply 12 _ _ _ _ _ _ _ _ _ _ _ _ (l .before .load-ask .ensures) (l .ask-before .ensures) (r .dist-mat .ensures) (s .send .ensures)
+
+pub viewer-dist-mat-spec : {M : Type 1} → statement M
+viewer-dist-mat-spec =
+    tie.close
+    (tie.spec
+    (λ c κs. search needs) (λ c κs. search needs) (λ c κs. search needs) (λ c κs. search needs)
+    (λ c. search needs) returns)

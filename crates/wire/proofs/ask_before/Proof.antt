@@ -1,0 +1,14 @@
+-- `wire::ask_before` meets its contract, by those of its calls. Assumes nothing.
+use Rattle.wire.specs.Sent.{askBefore}
+use borrow.Author.Needs.{needs}
+use Rattle.wire.proofs.ask_before.Statement.{statement}
+use Rattle.wire.proofs.ask_before.Tie as tie
+
+returns : tie.Need-returns
+unfolding askBefore
+returns c = cc
+
+pub ask-before-spec : {M : Type 1} → statement M
+ask-before-spec =
+    tie.close (tie.spec
+    (λ c κs. search needs) (λ c κs. search needs) (λ c κs. search needs) returns)
