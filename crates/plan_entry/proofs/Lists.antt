@@ -1,50 +1,113 @@
--- What a loop that writes a row or a run of rows needs at its start, at a turn and at its end, by induction on the words; and what an entry's two answers
--- amount to. Assumes nothing.
-use Prim.Native.Nat.{ℕ, suc, _+_, _*_, _<_, _≤_}
-use mathlib.Core.Path.{_≡_, refl}
+-- What a written row is, what loops that write rows need, and what an entry's two answers amount to: no row of the plan
+-- is one of the arguments', so that these are read as they were. Assumes nothing.
+use Prim.Native.Nat.{ℕ, zero, suc, _+_, _*_, _<_, _≤_}
+use mathlib.Core.Path.{_≡_, refl, _∙_}
+use mathlib.Core.Logic.{_⊎_, ⊎-elim, inl, inr}
 use mathlib.Core.Bool.{Bool, cond}
 use mathlib.Core.List.{List, [], _∷_}
-use native.Mathlib.Numerals.{add-one, one-add}
+use native.Mathlib.Numerals.{add-one}
 use native.Mathlib.Omega.{arith}
-use lib.ListN.{length, getD, set, drop, drop-of-length-le}
-use lib.Seq.{sets, set-out, drop-cons}
+use lib.ListN.{length, getD}
+use lib.Seq.{sets}
 use lib.Dec.{eqb}
 use lib.Ieee.{Float}
-use Rattle.plan.specs.Model.{countMaterials, countLights}
+use borrow.Author.Tests.{lt-ltb, le-ltb}
+use Rattle.words.proofs.Laws.{less-or}
+use Rattle.words.proofs.Stores.{getD-sets-out}
+use Rattle.plan.specs.Plan.{countOf, planOf}
 use Rattle.plan_test.specs.declared.Solids.{Solids}
-use Rattle.plan_test.specs.Sound.{solidsOf}
+use Rattle.plan_test.specs.Tests.{solidsOf}
 use Rattle.plan_entry.specs.declared.Added.{Added}
-use Rattle.plan_entry.specs.Entry.{addedOf, countOf, pieceNumber, putCutters, cutterWords, pieceLeft, recordNumber, withMaterial, withLight, AddsPiece, AddsMaterial, AddsLight}
+use Rattle.plan_entry.specs.Entry.{addedOf, sectionOf, pieceNumber, argCuts, usedWord, cutterWords, putRow, putCutters}
+use Rattle.plan_entry.specs.Entry.{newPlace, withPiece, Enters, AddsPiece}
 
--- ---- one row: a turn, the end, and past the table
-pub sets-step : (w r : List ℕ) (i j : ℕ) → j < length r → sets w (i + j) (drop j r) ≡ sets (set w (i + j) (getD r j 0)) (i + (j + 1)) (drop (j + 1) r)
-sets-step w r i j h =
-    let g : i + (j + 1) ≡ suc (i + j) = omega arith in
-    rw (drop-cons r j 0 h, g, add-one)
+-- ---- a row
+pub row-in : (w : List ℕ) (r : ℕ) (words : List ℕ) → r < 1393 → putRow w r words ≡ sets w (16 * r) words
+unfolding putRow
+row-in w r words h = rw (lt-ltb r 1393 h)
 
-pub sets-none : (w r : List ℕ) (i j : ℕ) → length r ≤ j → sets w i (drop j r) ≡ w
-sets-none w r i j h = rw (drop-of-length-le r h)
+pub row-out : (w : List ℕ) (r : ℕ) (words : List ℕ) → 1393 ≤ r → putRow w r words ≡ w
+unfolding putRow
+row-out w r words h = rw (le-ltb r 1393 h)
 
-pub sets-past : (w : List ℕ) (i : ℕ) (r : List ℕ) → length w ≤ i → sets w i r ≡ w
-sets-past w i [] h = refl
-sets-past w i (a ∷ r) h = rw (set-out w i a h) (sets-past w (suc i) r (omega arith))
+-- another row's words stay
+pub row-other
+    : (w : List ℕ) (r : ℕ) (words : List ℕ) (k : ℕ)
+    → length words ≤ 16
+    → (k < 16 * r) ⊎ (16 * r + 16 ≤ k)
+    → getD (putRow w r words) k 0 ≡ getD w k 0
+row-other w r words k l h =
+    ⊎-elim
+    (λ p. rw (row-in w r words p) (getD-sets-out w (16 * r) words k (⊎-elim (λ q. inl q) (λ q. inr (omega arith)) h)))
+    (λ p. rw (row-out w r words p))
+    (less-or r 1393)
 
--- ---- a run of cutters
-module _ (w aw : List ℕ) (place : ℕ) where
-  pub put-none : w ≡ putCutters w aw place 0
+-- the words after the plan stay
+pub row-after : (w : List ℕ) (r : ℕ) (words : List ℕ) (k : ℕ) → length words ≤ 16 → 22288 ≤ k → getD (putRow w r words) k 0 ≡ getD w k 0
+row-after w r words k l h =
+    ⊎-elim
+    (λ p. row-other w r words k l (inr (omega arith)))
+    (λ p. rw (row-out w r words p))
+    (less-or r 1393)
+
+-- ---- cutters
+used-same
+    : (v w : List ℕ) (i kind j : ℕ)
+    → ((k : ℕ) → getD v (i + k) 0 ≡ getD w (i + k) 0)
+    → usedWord v i kind j ≡ usedWord w i kind j
+unfolding usedWord
+used-same v w i kind j h = rw (h j)
+
+-- the arguments' cutters, in a table whose words after the plan are the same
+cutter-same
+    : (v w : List ℕ) (r : ℕ)
+    → 1393 ≤ r
+    → ((k : ℕ) → 22288 ≤ k → getD v k 0 ≡ getD w k 0)
+    → cutterWords v r ≡ cutterWords w r
+cutter-same v w r g h =
+    let kind : ℕ = getD w (16 * r) 0 in
+    let same : (j : ℕ) → usedWord v (16 * r + 1) kind j ≡ usedWord w (16 * r + 1) kind j
+    = λ j. used-same v w (16 * r + 1) kind j (λ k. h (16 * r + 1 + k) (omega arith)) in
+    rw (h (16 * r) (omega arith), same 0, same 1, same 2, same 3, same 4, same 5, same 6, same 7)
+
+module _ (w : List ℕ) (place : ℕ) where
+  pub cutters-after : (n k : ℕ) → 22288 ≤ k → getD (putCutters w place n) k 0 ≡ getD w k 0
+  unfolding putCutters
+  cutters-after zero k h = refl
+  cutters-after (suc n) k h =
+      row-after (putCutters w place n) (369 + place + n) (cutterWords w (1394 + n)) k (omega arith) h ∙ cutters-after n k h
+
+  pub put-none : w ≡ putCutters w place 0
   unfolding putCutters
   put-none = refl
 
-  pub put-more : (j : ℕ) → putCutters w aw place (j + 1) ≡ sets (putCutters w aw place j) (16 * (369 + (place + j))) (cutterWords aw (1 + j))
+  -- a turn reads the arguments of the table that it writes
+  pub put-more
+      : (j : ℕ)
+      → putCutters w place (j + 1)
+      ≡ putRow (putCutters w place j) (369 + place + j) (cutterWords (putCutters w place j) (1394 + j))
   unfolding putCutters
-  put-more j = rw (add-one j, one-add j)
+  put-more j =
+      let v : List ℕ = putCutters w place j in
+      let e : cutterWords v (1394 + j) ≡ cutterWords w (1394 + j) = cutter-same v w (1394 + j) (omega arith) (cutters-after j) in
+      rw (add-one j, e)
 
 -- ---- what an entry answers and leaves, from what its calls gave
-pub adds-piece : {before : ℕ} {planes : Bool} {w : List ℕ} {f : List Float} {aw : List ℕ} {af : List Float} {bytes : ℕ} {s : Solids} {no n : ℕ} {r : Added} {w′ : List ℕ} → s ≡ solidsOf w f → no ≡ pieceNumber before planes w s aw af bytes → n ≡ countOf planes w → r ≡ addedOf no n → w′ ≡ pieceLeft planes w s aw no → AddsPiece before planes w f aw af bytes r w′
-adds-piece p q e a l = record { answer = cc; plan = cc }
+pub adds-piece
+    : (before : ℕ) (among : Bool) {w : List ℕ} (f : List Float) (bytes : ℕ) {s : Solids} {no n place : ℕ} {r : Added} {w′ : List ℕ}
+    → s ≡ solidsOf (planOf w f)
+    → no ≡ pieceNumber before among w f s bytes
+    → n ≡ countOf (sectionOf among) w
+    → place ≡ newPlace among s (argCuts w)
+    → r ≡ addedOf no n
+    → w′ ≡ cond (eqb no 0) (withPiece among w place) w
+    → AddsPiece before among w f bytes r w′
+adds-piece before among f bytes s m n place a l = record { answer = rw (a, n, m, s); table = rw (l, place, m, s) }
 
-pub adds-material : {no : ℕ} {w aw : List ℕ} {m : ℕ} {r : Added} {w′ : List ℕ} → m ≡ recordNumber no w (countMaterials w) 64 → r ≡ addedOf m (countMaterials w) → w′ ≡ cond (eqb m 0) (withMaterial w aw) w → AddsMaterial no w aw r w′
-adds-material q a l = record { answer = cc; plan = cc }
-
-pub adds-light : {no : ℕ} {w aw : List ℕ} {m : ℕ} {r : Added} {w′ : List ℕ} → m ≡ recordNumber no w (countLights w) 16 → r ≡ addedOf m (countLights w) → w′ ≡ cond (eqb m 0) (withLight w aw) w → AddsLight no w aw r w′
-adds-light q a l = record { answer = cc; plan = cc }
+pub enters
+    : {number m index : ℕ} {w left : List ℕ} {r : Added} {w′ : List ℕ}
+    → m ≡ number
+    → r ≡ addedOf m index
+    → w′ ≡ cond (eqb m 0) left w
+    → Enters number index w left r w′
+enters q a l = record { answer = rw (a, q); table = rw (l, q) }

@@ -1,4 +1,5 @@
--- What the loops over pieces need at a turn, by induction on the list, and what a test of a sum or of a number needs. Assumes nothing.
+-- What the loops over pieces need at a turn, by induction on the list, and a plan's number of the words that the code
+-- reads. Assumes nothing.
 use Prim.Native.Nat.{ℕ, _+_, _*_, _≤_, _<_}
 use native.Mathlib.Nat.{add-zero, zero-add, add-assoc}
 use native.Mathlib.Numerals.{add-one}

@@ -9,24 +9,26 @@ use Rattle.plan_entry.proofs.put_cutters.Statement.{statement}
 use Rattle.plan_entry.proofs.put_cutters.Tie as tie
 
 abbrev Inv-loop : tie.InvT-loop
-Inv-loop ws₀ aw place n j₀ ws j = (j ≤ n) × (ws ≡ putCutters ws₀ aw place j)
+Inv-loop ws₀ place n j₀ ws j = (j ≤ n) × (ws ≡ putCutters ws₀ place j)
 
 abbrev μ-loop : tie.MeasureT-loop
-μ-loop ws₀ aw place n j₀ ws j = n - j
+μ-loop ws₀ place n j₀ ws j = n - j
 
 loop-holds : tie.Need-loop-holds Inv-loop μ-loop
-loop-holds c = let a = c .before .args in (search needs, put-none (a .ws .now) (a .aw .now) (a .place))
+loop-holds c = let a = c .args in (search needs, put-none (a .ws .now) (a .place))
 
 loop-again : tie.Need-loop-again Inv-loop μ-loop
-loop-again c = let l = c .before .before .before .before .before .loop in (omega arith, rw (put-more, c .put-row .ensures, c .before .before .before .cutter-words .ensures, l .inv .1))
+loop-again c =
+    let l = c .before .before .before .before .before .before .loop in
+    (omega arith, rw (put-more, c .put-row .ensures, c .before .before .before .cutter-words .ensures, l .inv .1))
 
 returns : tie.Need-returns Inv-loop μ-loop
-returns c = let e : c .before .loop .j ≡ c .before .before .before .args .n = omega arith in cc
+returns c = let e : c .before .loop .j ≡ c .before .before .args .n = omega arith in cc
 
 pub put-cutters-spec : {M : Type 1} → statement M
 put-cutters-spec =
     tie.close
     (tie.spec
-    Inv-loop μ-loop loop-holds (λ c. search needs) (λ c κs. search needs) (λ c. search needs)
+    Inv-loop μ-loop loop-holds (λ c κs. search needs) (λ c. search needs) (λ c. search needs)
     (λ c. search needs) (λ c. search needs) (λ c κs. search needs) (λ c. search needs) (λ c. search needs)
     loop-again returns)

@@ -1,4 +1,4 @@
--- `plan_entry::put_row` meets its contract: what is left to write, written into the table so far, is the whole; and past the last row, since the table ends there. Assumes nothing.
+-- `plan_entry::put_row` meets its contract: what is left to write, written into the table so far, is the whole. Assumes nothing.
 use borrow.Author.Needs.{needs}
 use Prim.Native.Nat.{_≤_, _+_, _-_, _*_}
 use mathlib.Core.Path.{_≡_, sym, _∙_}
@@ -6,7 +6,8 @@ use native.Mathlib.Nat.{add-zero}
 use native.Mathlib.Omega.{arith}
 use lib.ListN.{drop}
 use lib.Seq.{sets}
-use Rattle.plan_entry.proofs.Lists.{sets-step, sets-none, sets-past}
+use Rattle.words.proofs.Stores.{sets-step, sets-none}
+use Rattle.plan_entry.proofs.Lists.{row-in, row-out}
 use Rattle.plan_entry.proofs.put_row.Statement.{statement}
 use Rattle.plan_entry.proofs.put_row.Tie as tie
 
@@ -20,18 +21,25 @@ loop-holds : tie.Need-loop-holds Inv-loop μ-loop
 loop-holds c = (search needs, rw add-zero)
 
 loop-again : tie.Need-loop-again Inv-loop μ-loop
-loop-again c = let l = c .before .before .loop in let a = c .before .before .before .before .before .args in (omega arith, sym (sets-step (l .ws) (a .rec .now) (16 * a .r) (l .j) (omega arith)) ∙ l .inv .1)
+loop-again c =
+    let l = c .before .before .loop in
+    let a = c .before .before .before .before .before .args in
+    (omega arith, sym (sets-step (l .ws) (a .rec .now) (16 * a .r) (l .j) (omega arith)) ∙ l .inv .1)
 
 returns : tie.Need-returns Inv-loop μ-loop
-returns c = let l = c .before .loop in let a = c .before .before .before .before .args in sym (sets-none (l .ws) (a .rec .now) (16 * a .r + l .j) (l .j) (omega arith)) ∙ l .inv .1
+returns c =
+    let l = c .before .loop in
+    let a = c .before .before .before .before .args in
+    rw (row-in (a .ws .now) (a .r) (a .rec .now) (c .before .before .if1 .taken))
+    (sym (sets-none (l .ws) (a .rec .now) (16 * a .r + l .j) (l .j) (omega arith)) ∙ l .inv .1)
 
 returns-2 : tie.Need-returns-2 Inv-loop μ-loop
-returns-2 c = let a = c .before .before .before .before .args in sym (sets-past (a .ws .now) (16 * a .r) (a .rec .now) (omega arith))
+returns-2 c = let a = c .before .before .args in rw (row-out (a .ws .now) (a .r) (a .rec .now) (c .if1 .left))
 
 pub put-row-spec : {M : Type 1} → statement M
 put-row-spec =
     tie.close
     (tie.spec
-    Inv-loop μ-loop loop-holds (λ c. search needs) (λ c. search needs) (λ c. search needs) (λ c. search needs)
-    (λ c. search needs) (λ c. search needs) (λ c. search needs) (λ c. search needs) loop-again returns
-    returns-2)
+    Inv-loop μ-loop (λ c. search needs) loop-holds (λ c. search needs) (λ c. search needs) (λ c. search needs)
+    (λ c. search needs) (λ c. search needs) (λ c. search needs) (λ c. search needs) (λ c. search needs)
+    loop-again returns returns-2)

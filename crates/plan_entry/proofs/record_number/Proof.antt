@@ -1,14 +1,14 @@
 -- `plan_entry::record_number` meets its contract: call by call. Assumes nothing.
-use Rattle.plan_entry.specs.Entry.{recordNumber}
 use borrow.Author.Needs.{needs}
 use Rattle.plan_entry.proofs.record_number.Statement.{statement}
 use Rattle.plan_entry.proofs.record_number.Tie as tie
 
 returns : tie.Need-returns
-unfolding recordNumber
 returns c = cc
 
 pub record-number-spec : {M : Type 1} → statement M
 record-number-spec =
-    tie.close (tie.spec
-    (λ c κs. search needs) (λ c κs. search needs) (λ c κs. search needs) (λ c κs. search needs) returns)
+    tie.close
+    (tie.spec
+    (λ c κs. search needs) (λ c κs. search needs) (λ c κs. search needs) (λ c κs. search needs)
+    (λ c κs. search needs) returns)

@@ -19,7 +19,10 @@ returns-3 c = rw (c .match .keys3)
 
 returns-4 : tie.Need-returns-4
 unfolding usedWords
-returns-4 c = let r = c .match .rest in simp (ne-eqb _ 0 (λ e. r .0 .0 .1 (inl e)), ne-eqb _ 2 (λ e. r .0 .0 .1 (inr e)), ne-eqb _ 4 (r .0 .1), ne-eqb _ 6 (r .1))
+returns-4 c =
+    let r = c .match .rest in
+    let small = r .0 .0 .1 in
+    simp (ne-eqb _ 0 (λ e. small (inl e)), ne-eqb _ 2 (λ e. small (inr e)), ne-eqb _ 4 (r .0 .1), ne-eqb _ 6 (r .1))
 
 pub used-words-spec : {M : Type 1} → statement M
 used-words-spec = tie.close (tie.spec returns returns-2 returns-3 returns-4)

@@ -1,17 +1,27 @@
 -- `plan_entry::with_light` meets its contract: call by call. Assumes nothing.
-use Rattle.plan_entry.specs.Entry.{withLight}
+use Rattle.plan_entry.specs.Entry.{withLightWords}
 use borrow.Author.Needs.{needs}
 use Rattle.plan_entry.proofs.with_light.Statement.{statement}
 use Rattle.plan_entry.proofs.with_light.Tie as tie
 
 returns : tie.Need-returns
-unfolding withLight
-returns c = rw (c .before .put-row2 .ensures, c .before .before .before .before .put-row .ensures, c .before .before .before .before .before .before .before .light-words .ensures, c .one-more .ensures, c .before .before .before .before .before .before .before .before .word-of .ensures)
+unfolding withLightWords
+returns c =
+    λ e.
+    let r = c .before .before .before .before .before .before .before in
+    rw (
+      c .before .put-row2 .ensures,
+      c .before .before .before .before .put-row .ensures,
+      r .record-words2 .ensures,
+      r .before .before .record-words .ensures,
+      c .one-more .ensures,
+      e,
+    )
 
 pub with-light-spec : {M : Type 1} → statement M
 with-light-spec =
     tie.close
     (tie.spec
     (λ c κs. search needs) (λ c κs. search needs) (λ c. search needs) (λ c. search needs) (λ c. search needs)
-    (λ c κs. search needs) (λ c. search needs) (λ c. search needs) (λ c. search needs) (λ c κs. search needs)
-    (λ c κs. search needs) (λ c. search needs) returns)
+    (λ c κs. search needs) (λ c. search needs) (λ c κs. search needs) (λ c κs. search needs)
+    (λ c. search needs) returns)

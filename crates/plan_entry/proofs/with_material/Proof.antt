@@ -1,16 +1,18 @@
 -- `plan_entry::with_material` meets its contract: call by call. Assumes nothing.
-use Rattle.plan_entry.specs.Entry.{withMaterial}
+use Rattle.plan_entry.specs.Entry.{withMaterialWords}
 use borrow.Author.Needs.{needs}
 use Rattle.plan_entry.proofs.with_material.Statement.{statement}
 use Rattle.plan_entry.proofs.with_material.Tie as tie
 
 returns : tie.Need-returns
-unfolding withMaterial
-returns c = rw (c .before .put-row .ensures, c .before .before .before .before .material-words .ensures, c .one-more .ensures, c .before .before .before .before .before .word-of .ensures)
+unfolding withMaterialWords
+returns c =
+    λ e.
+    rw (c .before .put-row .ensures, c .before .before .before .before .record-words .ensures, c .one-more .ensures, e)
 
 pub with-material-spec : {M : Type 1} → statement M
 with-material-spec =
     tie.close
     (tie.spec
-    (λ c κs. search needs) (λ c κs. search needs) (λ c. search needs) (λ c. search needs)
-    (λ c κs. search needs) (λ c κs. search needs) (λ c. search needs) returns)
+    (λ c κs. search needs) (λ c. search needs) (λ c. search needs) (λ c κs. search needs)
+    (λ c κs. search needs) (λ c. search needs) returns)

@@ -6,11 +6,37 @@ use Rattle.plan_entry.proofs.with_piece.Tie as tie
 
 returns : tie.Need-returns
 unfolding withPiece
-returns c = rw (c .before .before .put-row .ensures, c .before .before .before .before .before .before .piece-words .ensures, c .before .before .before .before .row-of .ensures, c .one-more .ensures, c .before .before .before .before .before .before .before .put-cutters .ensures, c .before .before .before .before .before .before .before .before .word-of .ensures, c .before .before .before .before .before .before .before .before .before .before .count-of .ensures, c .before .if1 .taken)
+returns c =
+    let r = c .before .before in
+    let k = r .before .before .before .before in
+    let a = k .before .before .before .before in
+    rw (
+      r .put-row .ensures,
+      k .before .before .piece-words .ensures,
+      r .before .before .row-of .ensures,
+      c .one-more .ensures,
+      k .put-cutters .ensures,
+      a .arg-word .ensures,
+      a .before .before .count-of .ensures,
+      c .before .if1 .taken,
+    )
 
 returns-2 : tie.Need-returns-2
 unfolding withPiece
-returns-2 c = rw (c .before .before .put-row .ensures, c .before .before .before .before .before .before .piece-words .ensures, c .before .before .before .before .row-of .ensures, c .one-more2 .ensures, c .before .before .before .before .before .before .before .put-cutters .ensures, c .before .before .before .before .before .before .before .before .word-of .ensures, c .before .before .before .before .before .before .before .before .before .before .count-of .ensures, c .before .if1 .left)
+returns-2 c =
+    let r = c .before .before in
+    let k = r .before .before .before .before in
+    let a = k .before .before .before .before in
+    rw (
+      r .put-row .ensures,
+      k .before .before .piece-words .ensures,
+      r .before .before .row-of .ensures,
+      c .one-more2 .ensures,
+      k .put-cutters .ensures,
+      a .arg-word .ensures,
+      a .before .before .count-of .ensures,
+      c .before .if1 .left,
+    )
 
 pub with-piece-spec : {M : Type 1} → statement M
 with-piece-spec =

@@ -6,7 +6,9 @@ use Rattle.plan_test.proofs.counts_ok.Statement.{statement}
 use Rattle.plan_test.proofs.counts_ok.Tie as tie
 
 returns : tie.Need-returns
-returns c = let w = c .before .before .before .before .before .before .before .args .ws .now in rw (counts-words w (seen w)) (cc)
+returns c =
+    let w = c .before .before .before .before .before .before .before .args .ws .now in
+    rw (counts-words w (seen w)) (cc)
 
 pub counts-ok-spec : {M : Type 1} → statement M
 counts-ok-spec =

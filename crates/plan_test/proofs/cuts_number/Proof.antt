@@ -19,7 +19,9 @@ abbrev μ-loop : tie.MeasureT-loop
 μ-loop ws fs base place n least₀ j₀ least j = n - j
 
 loop-holds : tie.Need-loop-holds Inv-loop μ-loop
-loop-holds c = let a = c .args in (search needs, lowest-start cutterNumber (cutterAt (a .ws .now) (a .fs .now)) (a .base + a .place))
+loop-holds c =
+    let a = c .args in
+    (search needs, lowest-start cutterNumber (cutterAt (a .ws .now) (a .fs .now)) (a .base + a .place))
 
 loop-again : tie.Need-loop-again Inv-loop μ-loop
 loop-again c = (omega arith, rw lowest-more (cc))

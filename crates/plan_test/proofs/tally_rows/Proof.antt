@@ -1,4 +1,5 @@
--- `plan_test::tally_rows` meets its contract: the tally so far is that of the pieces passed, and no sum of so many words wraps. Assumes nothing.
+-- `plan_test::tally_rows` meets its contract: the tally so far is that of the pieces passed, and no sum of so many
+-- words wraps. Assumes nothing.
 use borrow.Author.Needs.{needs}
 use Prim.Native.Nat.{_+_, _*_, _≤_, _-_}
 use mathlib.Core.Path.{_≡_}
@@ -8,7 +9,8 @@ use Rattle.plan.specs.Sections as sections
 use Rattle.plan.specs.Plan.{piecesFrom, countOf}
 use Rattle.plan_test.specs.Numbers.{pieceOwn}
 use Rattle.plan_test.specs.Tests.{cuttersOf, placesOk, tallyOf}
-use Rattle.plan_test.proofs.Lists.{own-start, own-more, used-start, used-more, placed-start, placed-more, sum-words, sum-fits}
+use Rattle.plan_test.proofs.Lists.{own-start, own-more, used-start, used-more, placed-start}
+use Rattle.plan_test.proofs.Lists.{placed-more, sum-words, sum-fits}
 use Rattle.plan_test.proofs.tally_rows.Statement.{statement}
 use Rattle.plan_test.proofs.tally_rows.Tie as tie
 
@@ -36,7 +38,9 @@ loop-holds c =
     )
 
 add-used : tie.Need-add-used Inv-loop μ-loop
-add-used c = let l = c .before .before .before .before .before .before .before in sum-fits (l .loop .used) _ (l .loop .j) (search needs) (search needs) (search needs)
+add-used c =
+    let l = c .before .before .before .before .before .before .before in
+    sum-fits (l .loop .used) _ (l .loop .j) (search needs) (search needs) (search needs)
 
 loop-again : tie.Need-loop-again Inv-loop μ-loop
 loop-again c =

@@ -1,19 +1,19 @@
--- `plan_entry::kept` meets its contract: by the test of the place. Assumes nothing.
+-- `plan_entry::used_word` meets its contract: by the test of the place. Assumes nothing.
 use mathlib.Core.Path.{sym}
 use borrow.Author.Tests.{lt-ltb, le-ltb}
-use Rattle.plan_entry.specs.Entry.{kept}
+use Rattle.plan_entry.specs.Entry.{usedWord}
 use borrow.Author.Needs.{needs}
-use Rattle.plan_entry.proofs.kept.Statement.{statement}
-use Rattle.plan_entry.proofs.kept.Tie as tie
+use Rattle.plan_entry.proofs.used_word.Statement.{statement}
+use Rattle.plan_entry.proofs.used_word.Tie as tie
 
 returns : tie.Need-returns
-unfolding kept
+unfolding usedWord
 returns c = rw (sym (c .before .before .used-words .ensures), lt-ltb _ _ (c .before .if1 .taken)) (c .word-after .ensures)
 
 returns-2 : tie.Need-returns-2
-unfolding kept
+unfolding usedWord
 returns-2 c = rw (sym (c .before .used-words .ensures), le-ltb _ _ (c .if1 .left))
 
-pub kept-spec : {M : Type 1} → statement M
-kept-spec = tie.close (tie.spec
+pub used-word-spec : {M : Type 1} → statement M
+used-word-spec = tie.close (tie.spec
     (λ c κs. search needs) (λ c κs. search needs) returns returns-2)
