@@ -22,7 +22,7 @@ use Rattle.bvh_boxes.proofs.Sound.{boxes-finite}
 use Rattle.bvh_rules.specs.Rules.{Tree, size, depth, Holds, Accepted, MeetsRules}
 use Rattle.bvh_rules.specs.Check.{standingNumber}
 use Rattle.bvh_rules.proofs.Exact.{standing-exact}
-use Rattle.bvh_split.proofs.Perms.{All, perm-length}
+use Rattle.bvh_split.proofs.Perms.{Each, perm-length}
 use Rattle.bvh_build.specs.Build.{Made}
 use Rattle.bvh_build.specs.Encode.{encode, laid}
 use Rattle.bvh_build.specs.Tables.{self, builtOf, sizeOf, lowEnough, nodesWith, orderWith}
@@ -58,7 +58,7 @@ length-nodes n m nodes = either (eqb n 0)
 
 module _ (w : List ℕ) (f : List Float) where
   -- ---- the tree of a plan's objects
-  numbers-all : (P : Aabb → Type 0) → ((o : ℕ) → o < countObjects w → P (boxAt (boxesOf w f) o)) → All (λ o. P (boxAt (boxesOf w f) o)) (numbers (countObjects w))
+  numbers-all : (P : Aabb → Type 0) → ((o : ℕ) → o < countObjects w → P (boxAt (boxesOf w f) o)) → Each (λ o. P (boxAt (boxesOf w f) o)) (numbers (countObjects w))
   numbers-all P h i l =
       let k : i < countObjects w = omega (arith, length-from self 0 (countObjects w)) in
       rw (number-at (countObjects w) i k) (h i k)

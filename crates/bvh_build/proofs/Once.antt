@@ -7,7 +7,7 @@ use lib.ListN.{length, getD}
 use Rattle.words.specs.Lists.{listFrom}
 use Rattle.words.proofs.Runs.{getD-from, length-from}
 use Rattle.bvh_rules.specs.Rules.{Once}
-use Rattle.bvh_split.proofs.Perms.{Perm, All, Apart, perm-length, perm-all, perm-apart}
+use Rattle.bvh_split.proofs.Perms.{Perm, Each, Apart, perm-length, perm-all, perm-apart}
 use Rattle.bvh_build.specs.Tables.{self}
 use Rattle.bvh_build.proofs.Stands.{Reads}
 
@@ -17,7 +17,7 @@ numbers n = listFrom self 0 n
 pub number-at : (n i : ℕ) → i < n → getD (numbers n) i 0 ≡ i
 number-at n i h = omega (arith, getD-from self 0 n i 0 h)
 
-numbers-below : (n : ℕ) → All (λ o. o < n) (numbers n)
+numbers-below : (n : ℕ) → Each (λ o. o < n) (numbers n)
 numbers-below n i l =
     let h : i < n = omega (arith, length-from self 0 n) in
     rw (number-at n i h) h

@@ -12,7 +12,7 @@ use Rattle.words.proofs.Runs.{from-snoc, length-from}
 use Rattle.plan.specs.Model.{countObjects}
 use Rattle.bvh_boxes.specs.Boxes.{objectBox, boxesOf, boxAt}
 use Rattle.bvh_boxes.proofs.Lists.{box-here}
-use Rattle.bvh_split.specs.Table.{tableBoxes, putBox}
+use Rattle.bvh_split.specs.Inside.Table.{tableBoxes, putBox}
 use Rattle.bvh_split.proofs.Table.{boxes-put, length-put-box}
 use Rattle.bvh_build.specs.Encode.{wordFor, nodeWords, laid}
 use Rattle.bvh_build.proofs.Laid.{laid-snoc}

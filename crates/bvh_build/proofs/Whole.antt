@@ -16,9 +16,9 @@ use Rattle.words.proofs.Runs.{getD-from, length-from, from-same}
 use Rattle.plan.specs.Model.{countObjects}
 use Rattle.bvh_boxes.specs.Boxes.{boxesOf, boxAt, noBox}
 use Rattle.bvh_boxes.proofs.Lists as lists
-use Rattle.bvh_split.specs.Table.{tableBoxes}
+use Rattle.bvh_split.specs.Inside.Table.{tableBoxes}
 use Rattle.bvh_split.proofs.Table.{box-count, box-here}
-use Rattle.bvh_split.proofs.Perms.{All}
+use Rattle.bvh_split.proofs.Perms.{Each}
 use Rattle.bvh_build.specs.declared.Built.{Built}
 use Rattle.bvh_build.specs.Build.{Made, buildOf}
 use Rattle.bvh_build.specs.Encode.{laid, low32}
@@ -33,7 +33,7 @@ numbers-same n h = from-same low32 self 0 0 n (λ k l. rw (lt-ltb (0 + k) 429496
 
 -- ---- the table with the boxes of a plan laid over it
 table-alike : (w : List ℕ) (f : List Float) (zs : List Aabb) → countObjects w ≤ length zs
-    → All (Alike (laid zs 0 (boxesOf w f)) (boxesOf w f)) (listFrom self 0 (countObjects w))
+    → Each (Alike (laid zs 0 (boxesOf w f)) (boxesOf w f)) (listFrom self 0 (countObjects w))
 table-alike w f zs h i l =
     let k : i < countObjects w = omega (arith, length-from self 0 (countObjects w)) in
     let z : 0 + i ≡ i = omega arith in
