@@ -14,7 +14,7 @@ use Rattle.bvh_rules.specs.Rules.{hull, weight, Boxed}
 use Rattle.bvh_split.specs.Range.{members, spanOf}
 use Rattle.bvh_split.proofs.Perms.{Each}
 use Rattle.bvh_split.proofs.Cuts.{members-length, members-at, span-hull}
-use Rattle.bvh_build.specs.Build.{Made, leafOf, joined, buildOf}
+use Rattle.bvh_build.specs.Build.{TreeOrder, leafOf, joined, buildOf}
 use Rattle.bvh_build.proofs.Fuel.{stopsAt, leftPart, rightPart, build-each}
 use Rattle.bvh_build.proofs.Same.{left-all, right-all}
 use Rattle.bvh_build.proofs.Stands.{Reads, reads-left, reads-right, FitBox, FitTree}
@@ -47,7 +47,7 @@ module _ (bs : List Aabb) where
   abbrev pub Fit : ℕ → Type 0
   Fit o = FitBox (boxAt bs o)
 
-  pub record Tight (os : List ℕ) (m : Made) : Type 0 where
+  pub record Tight (os : List ℕ) (m : TreeOrder) : Type 0 where
     pub around : hull (m .tree) ≡ hullFrom nowhere (members bs os)
     pub weighs : weight (m .tree) ≡ length (m .order)
     pub fit : Each Fit os → FitTree (m .tree)
@@ -86,7 +86,7 @@ module _ (bs : List Aabb) where
         );
       }
 
-  node-tight : (os : List ℕ) → stopsAt bs os ≡ false → (l r : Made) → Tight (leftPart bs os) l → Tight (rightPart bs os) r
+  node-tight : (os : List ℕ) → stopsAt bs os ≡ false → (l r : TreeOrder) → Tight (leftPart bs os) l → Tight (rightPart bs os) r
       → Tight os (joined (spanOf bs os .hull) l r)
   node-tight os p l r a b =
       record {

@@ -17,7 +17,7 @@ use Rattle.bvh_split.specs.Part.{swapped, goesLeft, Parted, partFrom, parted, e
 use Rattle.bvh_split.proofs.Perms.{Each, perm-all}
 use Rattle.bvh_split.proofs.Cuts.{swapped-perm, length-swapped, cut-all}
 use Rattle.bvh_rules.specs.Rules.{leaf}
-use Rattle.bvh_build.specs.Build.{Made, leafOf, joined, buildFrom, buildOf}
+use Rattle.bvh_build.specs.Build.{TreeOrder, leafOf, joined, buildFrom, buildOf}
 use Rattle.bvh_build.proofs.Fuel.{stopsAt, cutAt, leftPart, rightPart, from-leaf, from-parts}
 
 all-take : (P : ℕ → Type 0) (m : ℕ) (xs : List ℕ) → Each P xs → Each P (take m xs)
@@ -97,8 +97,8 @@ module _ (bs cs : List Aabb) where
       let r = from-same k _ (rightPart bs os) refl (right-all bs os Alike h) in
       from-parts bs os k p
       ∙ ap (λ (s : Span). joined (s .hull) (buildFrom k bs (leftPart bs os)) (buildFrom k bs (rightPart bs os))) (span-same os h)
-      ∙ ap (λ (m : Made). joined (spanOf cs os .hull) m (buildFrom k bs (rightPart bs os))) l
-      ∙ ap (λ (m : Made). joined (spanOf cs os .hull) (buildFrom k cs (leftPart bs os)) m) r
+      ∙ ap (λ (m : TreeOrder). joined (spanOf cs os .hull) m (buildFrom k bs (rightPart bs os))) l
+      ∙ ap (λ (m : TreeOrder). joined (spanOf cs os .hull) (buildFrom k cs (leftPart bs os)) m) r
       ∙ ap (λ (q : Parted). joined (spanOf cs os .hull) (buildFrom k cs (take (q .mid) (q .order))) (buildFrom k cs (drop (q .mid) (q .order)))) (cuts-same os h)
       ∙ sym (from-parts cs os k (sym (stops-same os h) ∙ p))
 
