@@ -12,9 +12,9 @@ use Rattle.bvh_boxes.specs.Boxes.{finiteBox, inside, nowhere, hullFrom, boxAt}
 use Rattle.bvh_boxes.proofs.Laws.{StandIn, hull-whole, hull-holds, hull-of-some}
 use Rattle.bvh_rules.specs.Rules.{hull, weight, Boxed}
 use Rattle.bvh_split.specs.Range.{members, spanOf}
-use Rattle.bvh_split.proofs.Perms.{All}
+use Rattle.bvh_split.proofs.Perms.{Each}
 use Rattle.bvh_split.proofs.Cuts.{members-length, members-at, span-hull}
-use Rattle.bvh_build.specs.Build.{Made, leafOf, joined, buildOf}
+use Rattle.bvh_build.specs.Build.{TreeOrder, leafOf, joined, buildOf}
 use Rattle.bvh_build.proofs.Fuel.{stopsAt, leftPart, rightPart, build-each}
 use Rattle.bvh_build.proofs.Same.{left-all, right-all}
 use Rattle.bvh_build.proofs.Stands.{Reads, reads-left, reads-right, FitBox, FitTree}
@@ -22,7 +22,7 @@ use Rattle.bvh_build.proofs.Fitting.{hull-fits}
 
 module _ (bs : List Aabb) where
   -- ---- the boxes of a range's members
-  members-all : (P : Aabb → Type 0) (os : List ℕ) → All (λ o. P (boxAt bs o)) os → (i : ℕ) → i < length (members bs os) → P (boxAt (members bs os) i)
+  members-all : (P : Aabb → Type 0) (os : List ℕ) → Each (λ o. P (boxAt bs o)) os → (i : ℕ) → i < length (members bs os) → P (boxAt (members bs os) i)
   members-all P os h i l =
       let k : i < length os = omega (arith, members-length bs os) in
       subst P (sym (members-at bs os i k)) (h i k)
@@ -31,10 +31,10 @@ module _ (bs : List Aabb) where
   abbrev Of : List ℕ → ℕ → Type 0
   Of os o = (j : ℕ) × (j < length os) × (o ≡ getD os j 0)
 
-  of-all : (os : List ℕ) → All (Of os) os
+  of-all : (os : List ℕ) → Each (Of os) os
   of-all os i l = (i, l, refl)
 
-  stand-in : (os xs : List ℕ) → All (Of os) xs → StandIn (members bs xs) (members bs os)
+  stand-in : (os xs : List ℕ) → Each (Of os) xs → StandIn (members bs xs) (members bs os)
   stand-in os xs h i l =
       let k : i < length xs = omega (arith, members-length bs xs) in
       let j = h i k in
@@ -47,25 +47,25 @@ module _ (bs : List Aabb) where
   abbrev pub Fit : ℕ → Type 0
   Fit o = FitBox (boxAt bs o)
 
-  pub record Tight (os : List ℕ) (m : Made) : Type 0 where
+  pub record Tight (os : List ℕ) (m : TreeOrder) : Type 0 where
     pub around : hull (m .tree) ≡ hullFrom nowhere (members bs os)
     pub weighs : weight (m .tree) ≡ length (m .order)
-    pub fit : All Fit os → FitTree (m .tree)
-    pub boxed : All Finite os → (o : List ℕ) (s : ℕ) → Reads o s (m .order) → Boxed o bs s (m .tree)
+    pub fit : Each Fit os → FitTree (m .tree)
+    pub boxed : Each Finite os → (o : List ℕ) (s : ℕ) → Reads o s (m .order) → Boxed o bs s (m .tree)
 
   module _ (os : List ℕ) where
-    span-finite : All Finite os → T (finiteBox (spanOf bs os .hull))
+    span-finite : Each Finite os → T (finiteBox (spanOf bs os .hull))
     span-finite h = rw (span-hull bs os) (hull-whole (members bs os) (members-all (λ b. T (finiteBox b)) os h))
 
-    span-fits : All Fit os → FitBox (spanOf bs os .hull)
+    span-fits : Each Fit os → FitBox (spanOf bs os .hull)
     span-fits h = rw (span-hull bs os) (hull-fits (members bs os) (members-all FitBox os h))
 
-    span-holds : All Finite os → (i : ℕ) → i < length os → T (inside (boxAt bs (getD os i 0)) (spanOf bs os .hull))
+    span-holds : Each Finite os → (i : ℕ) → i < length os → T (inside (boxAt bs (getD os i 0)) (spanOf bs os .hull))
     span-holds h i l =
         let k = hull-holds (members bs os) (members-all (λ b. T (finiteBox b)) os h) i (omega (arith, members-length bs os)) in
         subst₂ (λ (a b : Aabb). T (inside a b)) (members-at bs os i l) (sym (span-hull bs os)) k
 
-    part-inside : (xs : List ℕ) (b : Aabb) → All (Of os) xs → b ≡ hullFrom nowhere (members bs xs) → All Finite os → T (inside b (spanOf bs os .hull))
+    part-inside : (xs : List ℕ) (b : Aabb) → Each (Of os) xs → b ≡ hullFrom nowhere (members bs xs) → Each Finite os → T (inside b (spanOf bs os .hull))
     part-inside xs b p e h =
         subst₂ (λ (a b : Aabb). T (inside a b)) (sym e) (sym (span-hull bs os))
         (hull-of-some (members bs xs) (members bs os) (members-all (λ b. T (finiteBox b)) os h) (stand-in os xs p))
@@ -86,7 +86,7 @@ module _ (bs : List Aabb) where
         );
       }
 
-  node-tight : (os : List ℕ) → stopsAt bs os ≡ false → (l r : Made) → Tight (leftPart bs os) l → Tight (rightPart bs os) r
+  node-tight : (os : List ℕ) → stopsAt bs os ≡ false → (l r : TreeOrder) → Tight (leftPart bs os) l → Tight (rightPart bs os) r
       → Tight os (joined (spanOf bs os .hull) l r)
   node-tight os p l r a b =
       record {

@@ -1,6 +1,6 @@
 -- Every corner of an object's box, and of a hull of such boxes, is an f32: it is a sum, a difference, a literal, or one of two that are. Assumes nothing.
-use Prim.Native.Nat.{ℕ, suc, _+_, _<_}
-use mathlib.Core.List.{List, [], _∷_}
+use Prim.Native.Nat.{ℕ, zero, suc, _<_}
+use mathlib.Core.List.{List, [], _∷_, map}
 use native.Mathlib.Omega.{arith}
 use lib.Dec.{T}
 use lib.ListN.{length}
@@ -15,7 +15,7 @@ use Rattle.sdf.specs.declared.Bounds.{Bounds}
 use Rattle.sdf.specs.declared.Bounds.the-variants.{Within, Unbounded}
 use Rattle.sdf.specs.Boxes.{boundsOf, widened, boxIn, boxOf}
 use Rattle.refusals.specs.Ranges.{greatest}
-use Rattle.plan.specs.Model.{objectRow, headAt}
+use Rattle.plan.specs.Plan.{Piece}
 use Rattle.float_order.proofs.Extremes.{fmin-either, fmax-either}
 use Rattle.bvh_boxes.specs.Boxes.{nowhere, merge, hullFrom, objectBox, boxAt}
 use Rattle.bvh_build.proofs.Stands.{Fit3, FitBox}
@@ -61,9 +61,14 @@ unfolding widened
 in-fits (Within b) e = record { lo = vsub-fits (b .lo) (vsplat e); hi = vadd-fits (b .hi) (vsplat e) }
 in-fits Unbounded e = record { lo = splat-fits f0 (ofBits-fits binary32 0); hi = splat-fits f0 (ofBits-fits binary32 0) }
 
-pub object-fits : (w : List ℕ) (f : List Float) (o : ℕ) → FitBox (objectBox w f o)
+object-fits : (o : Piece) → FitBox (objectBox o)
 unfolding objectBox boxOf
-object-fits w f o = in-fits (boundsOf (headAt w f (objectRow + o) .shape)) (headAt w f (objectRow + o) .blend)
+object-fits o = in-fits (boundsOf (o .head .shape)) (o .head .blend)
+
+pub boxes-fit : (os : List Piece) (i : ℕ) → i < length os → FitBox (boxAt (map objectBox os) i)
+boxes-fit [] i l = absurd (omega arith)
+boxes-fit (o ∷ os) zero l = object-fits o
+boxes-fit (o ∷ os) (suc i) l = boxes-fit os i (omega arith)
 
 -- ---- a hull
 merge-fits : (a b : Aabb) → FitBox a → FitBox b → FitBox (merge a b)

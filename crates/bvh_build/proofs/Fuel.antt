@@ -16,7 +16,7 @@ use Rattle.vec.specs.Vec.{vaxis}
 use Rattle.bvh_split.specs.Range.{spanOf, extentOf, axisOf, narrowest, stops}
 use Rattle.bvh_split.specs.Part.{Parted, cutOf}
 use Rattle.bvh_split.proofs.Cuts.{cut-length, cut-mid}
-use Rattle.bvh_build.specs.Build.{Made, wayOf, leafOf, joined, buildFrom, buildOf}
+use Rattle.bvh_build.specs.Build.{TreeOrder, wayOf, leafOf, joined, buildFrom, buildOf}
 
 -- whether a range is a leaf; its cut and both parts
 abbrev pub stopsAt : List Aabb → List ℕ → Bool
@@ -74,8 +74,8 @@ module _ (bs : List Aabb) (os : List ℕ) where
   from-parts k p = rw p
 
 -- by the two ways of a range
-module _ (bs : List Aabb) (P : List ℕ → Made → Type 0) (leaf : (os : List ℕ) → P os (leafOf bs os))
-    (node : (os : List ℕ) → stopsAt bs os ≡ false → (l r : Made) → P (leftPart bs os) l → P (rightPart bs os) r → P os (joined (spanOf bs os .hull) l r)) where
+module _ (bs : List Aabb) (P : List ℕ → TreeOrder → Type 0) (leaf : (os : List ℕ) → P os (leafOf bs os))
+    (node : (os : List ℕ) → stopsAt bs os ≡ false → (l r : TreeOrder) → P (leftPart bs os) l → P (rightPart bs os) r → P os (joined (spanOf bs os .hull) l r)) where
   from-each : (k : ℕ) (b : Bool) (os : List ℕ) → stopsAt bs os ≡ b → P os (buildFrom k bs os)
   unfolding buildFrom
   from-each zero b os p = leaf os
@@ -98,8 +98,8 @@ module _ (bs : List Aabb) where
       let n = parts-length bs os p in
       let l = fuel k k′ _ (leftPart bs os) refl (omega (arith, right-some bs os p)) (omega (arith, right-some bs os p)) in
       let r = fuel k k′ _ (rightPart bs os) refl (omega (arith, left-some bs os p)) (omega (arith, left-some bs os p)) in
-      from-parts bs os k p ∙ ap (λ (m : Made). joined (spanOf bs os .hull) m (buildFrom k bs (rightPart bs os))) l
-      ∙ ap (λ (m : Made). joined (spanOf bs os .hull) (buildFrom k′ bs (leftPart bs os)) m) r
+      from-parts bs os k p ∙ ap (λ (m : TreeOrder). joined (spanOf bs os .hull) m (buildFrom k bs (rightPart bs os))) l
+      ∙ ap (λ (m : TreeOrder). joined (spanOf bs os .hull) (buildFrom k′ bs (leftPart bs os)) m) r
       ∙ sym (from-parts bs os k′ p)
 
   pub enough : (k k′ : ℕ) (os : List ℕ) → length os ≤ k → length os ≤ k′ → buildFrom k bs os ≡ buildFrom k′ bs os
@@ -117,5 +117,5 @@ module _ (bs : List Aabb) where
       let l = enough (length os) (length (leftPart bs os)) (leftPart bs os) (omega arith) (omega arith) in
       let r = enough (length os) (length (rightPart bs os)) (rightPart bs os) (omega arith) (omega arith) in
       enough (length os) (suc (length os)) os (omega arith) (omega arith) ∙ from-parts bs os (length os) p
-      ∙ ap (λ (m : Made). joined (spanOf bs os .hull) m (buildFrom (length os) bs (rightPart bs os))) l
-      ∙ ap (λ (m : Made). joined (spanOf bs os .hull) (buildFrom (length (leftPart bs os)) bs (leftPart bs os)) m) r
+      ∙ ap (λ (m : TreeOrder). joined (spanOf bs os .hull) m (buildFrom (length os) bs (rightPart bs os))) l
+      ∙ ap (λ (m : TreeOrder). joined (spanOf bs os .hull) (buildFrom (length (leftPart bs os)) bs (leftPart bs os)) m) r

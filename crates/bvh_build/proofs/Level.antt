@@ -19,9 +19,9 @@ use Rattle.bvh_split.specs.Range.{spanOf, extentOf, stops}
 use Rattle.bvh_split.specs.Part.{cutOf}
 use Rattle.bvh_split.proofs.Cuts.{cut-length, cut-mid}
 use Rattle.bvh_build.specs.declared.Built.{Built}
-use Rattle.bvh_build.specs.Build.{Made, joined, buildOf}
+use Rattle.bvh_build.specs.Build.{TreeOrder, joined, buildOf}
 use Rattle.bvh_build.specs.Encode.{nodeWords, encode, laid, lowOf, low32}
-use Rattle.bvh_build.specs.Tables.{Lays, Room}
+use Rattle.bvh_build.specs.Inside.Lays.{Lays, Room}
 use Rattle.bvh_build.proofs.Laid.{laid-append, laid-laid}
 use Rattle.bvh_build.proofs.Fuel.{stopsAt, leftPart, rightPart, many-go, build-leaf, build-parts}
 use Rattle.bvh_build.proofs.Shape.{build-shape, encode-length}
@@ -39,7 +39,7 @@ three nw i j k xs ys zs p q =
     ∙ ap (λ (n : ℕ). laid (laid nw i xs) n (ys ++ zs)) (sym p)
     ∙ sym (laid-append nw i xs (ys ++ zs))
 
-module _ (nw : List ℕ) (at s levels : ℕ) (b : Aabb) (ml mr : Made) where
+module _ (nw : List ℕ) (at s levels : ℕ) (b : Aabb) (ml mr : TreeOrder) where
   lays-joined : (l r : Built) (second : ℕ) (nw₁ nw₂ nw₃ ol or : List ℕ) → Lays ml nw (at + 1) s (levels - 1) l nw₁ ol
       → nw₂ ≡ laid nw₁ (9 * at) (nodeWords b 0 0 (l .next)) → second ≡ s + weight (ml .tree)
       → Lays mr nw₂ (l .next) second (levels - 1) r nw₃ or

@@ -9,4 +9,5 @@ pub mod Stands
 pub mod Fitting
 pub mod Boxed
 pub mod Once
+pub mod Sound
 pub mod Meets

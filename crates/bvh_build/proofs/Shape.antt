@@ -13,7 +13,7 @@ use Rattle.bvh_rules.specs.Rules.{Tree, leaf, node, size, weight, depth}
 use Rattle.bvh_split.specs.Range.{spanOf}
 use Rattle.bvh_split.proofs.Perms.{Perm, perm-length, perm-halves}
 use Rattle.bvh_split.proofs.Cuts.{cut-once}
-use Rattle.bvh_build.specs.Build.{Made, leafOf, joined, buildOf}
+use Rattle.bvh_build.specs.Build.{TreeOrder, leafOf, joined, buildOf}
 use Rattle.bvh_build.specs.Encode.{encode, lowOf}
 use Rattle.bvh_build.proofs.Fuel.{stopsAt, cutAt, leftPart, rightPart, left-some, right-some, parts-length, build-each}
 
@@ -22,7 +22,7 @@ abbrev pub Filled : Tree → Type 0
 Filled (leaf b c) = 0 < c
 Filled (node b l r) = Filled l × Filled r
 
-pub record Shape (os : List ℕ) (m : Made) : Type 0 where
+pub record Shape (os : List ℕ) (m : TreeOrder) : Type 0 where
   pub weighs : weight (m .tree) ≡ length os
   pub sized : 0 < length os → size (m .tree) + 1 ≤ 2 * length os
   pub filled : 0 < length os → Filled (m .tree)
@@ -32,7 +32,7 @@ module _ (bs : List Aabb) where
   leaf-shape : (os : List ℕ) → Shape os (leafOf bs os)
   leaf-shape os = record { weighs = refl; sized = λ h. omega arith; filled = λ h. h; once = Permᴰ·refl os }
 
-  node-shape : (os : List ℕ) → stopsAt bs os ≡ false → (l r : Made) → Shape (leftPart bs os) l → Shape (rightPart bs os) r
+  node-shape : (os : List ℕ) → stopsAt bs os ≡ false → (l r : TreeOrder) → Shape (leftPart bs os) l → Shape (rightPart bs os) r
       → Shape os (joined (spanOf bs os .hull) l r)
   node-shape os p l r a b =
       let n = parts-length bs os p in

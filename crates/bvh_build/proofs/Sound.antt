@@ -1,10 +1,10 @@
--- Boxes of a plan in order are finite: coordinates, radii and blend are at most 10,000, so corners are at most 40,000. By the bounds of sums and differences.
+-- The boxes of sound objects are finite: coordinates, radii and blend are at most 10,000, so corners are at most 40,000. By the bounds of sums and differences.
 -- Assumes nothing.
-use Prim.Native.Nat.{ℕ, suc, _+_, _*_, _^_, _<_, _≤_, suc-le-suc}
+use Prim.Native.Nat.{ℕ, zero, suc, _+_, _*_, _^_, _<_, _≤_}
 use mathlib.Core.Path.{refl, sym, subst}
 use mathlib.Core.Bool.{false, _&&_}
-use mathlib.Core.List.{List, [], _∷_}
-use native.Mathlib.Nat.{not-suc-le-zero, zero-lt-suc}
+use mathlib.Core.List.{List, [], _∷_, map}
+use native.Mathlib.Omega.{arith}
 use lib.Dec.{T, lit≤}
 use lib.ListN.{length}
 use lib.Ieee.{Float, binary32, ofBits, neg, le}
@@ -19,17 +19,17 @@ use Rattle.sdf.specs.declared.Shape.{Shape}
 use Rattle.sdf.specs.declared.Shape.the-variants.{Sphere, RoundBox, Plane, Capsule, Torus, Cylinder, Cone}
 use Rattle.sdf.specs.declared.Aabb.{Aabb}
 use Rattle.sdf.specs.Boxes.{spread, around, boundsOf, widened, boxOf}
-use Rattle.refusals.specs.Ranges.{far, greatest, upTo, within, withinUpTo, coordinates, size}
+use Rattle.refusals.specs.Ranges.{far, greatest, upTo, within, withinUpTo, coordinates, radius}
 use Rattle.refusals.specs.Prims.{shapeOk}
-use Rattle.plan.specs.Model.{countObjects, objectRow, headAt}
+use Rattle.words.specs.Lists.{All}
+use Rattle.plan.specs.Plan.{Piece, Plan}
 use Rattle.float_order.specs.Order.{Within, Held}
 use Rattle.float_order.proofs.Rounding.{zero-is}
 use Rattle.float_order.proofs.Bounds.{within-more, within-of, within-of-plus, within-le, within-ge, add-within, sub-within, fmax-within, fmin-within, held-whole}
-use Rattle.plan_test.specs.Exact.{SoundObjects}
-use Rattle.bvh_boxes.specs.Boxes.{finiteBox, nowhere, merge, hullFrom, objectBox, boxesOf, boxAt}
+use Rattle.plan_test.specs.Exact.{PieceOk, SoundObjects}
+use Rattle.bvh_boxes.specs.Boxes.{finiteBox, objectBox, boxesOf, boxAt}
 use Rattle.bvh_boxes.proofs.Vectors.{Finite, three, bounded}
-use Rattle.bvh_boxes.proofs.Laws.{AllFinite, finite-by, merge-nowhere}
-use Rattle.bvh_boxes.proofs.Lists.{box-count, box-here}
+use Rattle.bvh_boxes.proofs.Laws.{finite-by}
 
 -- ---- the numbers given
 far-is : HasValue far false 10000 1
@@ -44,18 +44,18 @@ magnitude-within : (b : ℕ) (y : Float) → HasValue y false b 1 → (x : Float
 unfolding magnitude between
 magnitude-within b y v x h = within-of b x y v (and-l (le (neg y) x) (le x y) h) (and-r (le (neg y) x) (le x y) h)
 
-size-within : (x : Float) → T (size x) → Within 10000 x
-unfolding size upTo between
-size-within x h =
+radius-within : (x : Float) → T (radius x) → Within 10000 x
+unfolding radius upTo between
+radius-within x h =
     within-of-plus 10000 x far far-is (subst (λ (o : Float). T (le o x)) zero-is (and-l (le f0 x) (le x far) h)) (and-r (le f0 x) (le x far) h)
 
 -- ---- vectors, by component
-pub record Within3 (b : ℕ) (v : Vec3) : Type 0 where
-  pub x : Within b (v .x)
-  pub y : Within b (v .y)
-  pub z : Within b (v .z)
+record Within3 (b : ℕ) (v : Vec3) : Type 0 where
+  x : Within b (v .x)
+  y : Within b (v .y)
+  z : Within b (v .z)
 
-pub within-within : (b : ℕ) (y : Float) → HasValue y false b 1 → (v : Vec3) → T (within v y) → Within3 b v
+within-within : (b : ℕ) (y : Float) → HasValue y false b 1 → (v : Vec3) → T (within v y) → Within3 b v
 unfolding within
 within-within b y e v h =
     let t = three (magnitude (v .x) y) (magnitude (v .y) y) (magnitude (v .z) y) h in
@@ -65,11 +65,11 @@ coordinates-within : (v : Vec3) → T (coordinates v) → Within3 10000 v
 unfolding coordinates
 coordinates-within = within-within 10000 far far-is
 
-sizes-within : (v : Vec3) → T (withinUpTo v far) → Within3 10000 v
-unfolding withinUpTo size
-sizes-within v h =
-    let t = three (size (v .x)) (size (v .y)) (size (v .z)) h in
-    record { x = size-within (v .x) (t .x); y = size-within (v .y) (t .y); z = size-within (v .z) (t .z) }
+radii-within : (v : Vec3) → T (withinUpTo v far) → Within3 10000 v
+unfolding withinUpTo radius
+radii-within v h =
+    let t = three (radius (v .x)) (radius (v .y)) (radius (v .z)) h in
+    record { x = radius-within (v .x) (t .x); y = radius-within (v .y) (t .y); z = radius-within (v .z) (t .z) }
 
 more3 : (a b : ℕ) (v : Vec3) → a ≤ b → Within3 a v → Within3 b v
 more3 a b v h w = record { x = within-more a b (v .x) h (w .x); y = within-more a b (v .y) h (w .y); z = within-more a b (v .z) h (w .z) }
@@ -117,12 +117,9 @@ module _ (b : ℕ) (u v : Vec3) (p : Within3 b u) (q : Within3 b v) where
       }
 
 -- ---- boxes
-pub record BoxWithin (b : ℕ) (a : Aabb) : Type 0 where
-  pub lo : Within3 b (a .lo)
-  pub hi : Within3 b (a .hi)
-
-abbrev pub AllWithin : ℕ → List Aabb → Type 0
-AllWithin n bs = (i : ℕ) → i < length bs → BoxWithin n (boxAt bs i)
+record BoxWithin (b : ℕ) (a : Aabb) : Type 0 where
+  lo : Within3 b (a .lo)
+  hi : Within3 b (a .hi)
 
 held-30000 : Held binary32 30000
 held-30000 = held-whole binary32 30000 (lit≤ tt)
@@ -161,35 +158,35 @@ torus-within major minor p q =
     record { x = s; y = within-more 10000 20000 minor (lit≤ tt) q; z = s }
 
 -- a plane's stand-in box too
-pub box-within : (s : Shape) (e : Float) → T (shapeOk s) → T (size e) → BoxWithin 40000 (boxOf s e)
+box-within : (s : Shape) (e : Float) → T (shapeOk s) → T (radius e) → BoxWithin 40000 (boxOf s e)
 unfolding boxOf boundsOf shapeOk
 box-within (Sphere c r) e h k =
     widened-within (spread c (vsplat r)) e
-    (spread-within c (vsplat r) (coordinates-within c (and-l (coordinates c) (size r) h))
-    (more3 10000 20000 (vsplat r) (lit≤ tt) (splat-within 10000 r (size-within r (and-r (coordinates c) (size r) h)))))
-    (size-within e k)
+    (spread-within c (vsplat r) (coordinates-within c (and-l (coordinates c) (radius r) h))
+    (more3 10000 20000 (vsplat r) (lit≤ tt) (splat-within 10000 r (radius-within r (and-r (coordinates c) (radius r) h)))))
+    (radius-within e k)
 box-within (RoundBox c b r) e h k =
-    let t = three (coordinates c) (withinUpTo b far) (size r) h in
-    widened-within (spread c b) e (spread-within c b (coordinates-within c (t .x)) (more3 10000 20000 b (lit≤ tt) (sizes-within b (t .y)))) (size-within e k)
+    let t = three (coordinates c) (withinUpTo b far) (radius r) h in
+    widened-within (spread c b) e (spread-within c b (coordinates-within c (t .x)) (more3 10000 20000 b (lit≤ tt) (radii-within b (t .y)))) (radius-within e k)
 box-within (Plane n d) e h k = record { lo = none; hi = none }
   where
     none : Within3 40000 (vsplat f0)
     none = splat-within 40000 f0 (subst (Within 40000) (sym zero-is) (record { finite = tt; size = lit≤ tt }))
 box-within (Capsule a b r) e h k =
-    let t = three (coordinates a) (coordinates b) (size r) h in
-    widened-within (around a b r) e (around-within a b r (coordinates-within a (t .x)) (coordinates-within b (t .y)) (size-within r (t .z))) (size-within e k)
+    let t = three (coordinates a) (coordinates b) (radius r) h in
+    widened-within (around a b r) e (around-within a b r (coordinates-within a (t .x)) (coordinates-within b (t .y)) (radius-within r (t .z))) (radius-within e k)
 box-within (Torus c major minor) e h k =
-    let t = three (coordinates c) (size major) (size minor) h in
+    let t = three (coordinates c) (radius major) (radius minor) h in
     widened-within (spread c (record { x = major ⊕ minor; y = minor; z = major ⊕ minor })) e
-    (spread-within c (record { x = major ⊕ minor; y = minor; z = major ⊕ minor }) (coordinates-within c (t .x)) (torus-within major minor (size-within major (t .y)) (size-within minor (t .z))))
-    (size-within e k)
+    (spread-within c (record { x = major ⊕ minor; y = minor; z = major ⊕ minor }) (coordinates-within c (t .x)) (torus-within major minor (radius-within major (t .y)) (radius-within minor (t .z))))
+    (radius-within e k)
 box-within (Cylinder a b r) e h k =
-    let t = three (coordinates a) (coordinates b) (size r) h in
-    widened-within (around a b r) e (around-within a b r (coordinates-within a (t .x)) (coordinates-within b (t .y)) (size-within r (t .z))) (size-within e k)
+    let t = three (coordinates a) (coordinates b) (radius r) h in
+    widened-within (around a b r) e (around-within a b r (coordinates-within a (t .x)) (coordinates-within b (t .y)) (radius-within r (t .z))) (radius-within e k)
 box-within (Cone a b ra rb) e h k =
-    let t = three (coordinates a) (coordinates b) (size ra && size rb) h in
-    let r = fmax-within 10000 ra rb (size-within ra (and-l (size ra) (size rb) (t .z))) (size-within rb (and-r (size ra) (size rb) (t .z))) in
-    widened-within (around a b (fmax ra rb)) e (around-within a b (fmax ra rb) (coordinates-within a (t .x)) (coordinates-within b (t .y)) r) (size-within e k)
+    let t = three (coordinates a) (coordinates b) (radius ra && radius rb) h in
+    let r = fmax-within 10000 ra rb (radius-within ra (and-l (radius ra) (radius rb) (t .z))) (radius-within rb (and-r (radius ra) (radius rb) (t .z))) in
+    widened-within (around a b (fmax ra rb)) e (around-within a b (fmax ra rb) (coordinates-within a (t .x)) (coordinates-within b (t .y)) r) (radius-within e k)
 
 -- ---- what is within 40,000 is finite
 small : (x : Float) → Within 40000 x → T (magnitude x greatest)
@@ -200,42 +197,23 @@ small x w =
 small3 : (v : Vec3) → Within3 40000 v → Finite v
 small3 v w = record { x = small (v .x) (w .x); y = small (v .y) (w .y); z = small (v .z) (w .z) }
 
-pub box-finite : (b : Aabb) → BoxWithin 40000 b → T (finiteBox b)
+box-finite : (b : Aabb) → BoxWithin 40000 b → T (finiteBox b)
 box-finite b w = finite-by b (small3 (b .lo) (w .lo)) (small3 (b .hi) (w .hi))
 
--- ---- the hull of some such boxes is one
-merge-within : (n : ℕ) (a b : Aabb) → BoxWithin n a → BoxWithin n b → BoxWithin n (merge a b)
-unfolding merge
-merge-within n a b p q = record { lo = vmin-within n (a .lo) (b .lo) (p .lo) (q .lo); hi = vmax-within n (a .hi) (b .hi) (p .hi) (q .hi) }
+-- ---- the objects of a plan
+own-finite : (n : ℕ) (o : Piece) → PieceOk false n o → T (finiteBox (objectBox o))
+unfolding objectBox
+own-finite n o h =
+    box-finite (boxOf (o .head .shape) (o .head .blend))
+    (box-within (o .head .shape) (o .head .blend) (h .own .prim .ranges) (h .own .blend))
 
-hull-from-within : (n : ℕ) (a : Aabb) (bs : List Aabb) → BoxWithin n a → AllWithin n bs → BoxWithin n (hullFrom a bs)
-unfolding hullFrom
-hull-from-within n a [] p q = p
-hull-from-within n a (b ∷ bs) p q =
-    hull-from-within n (merge a b) bs (merge-within n a b p (q 0 (zero-lt-suc (length bs)))) (λ i l. q (suc i) (suc-le-suc l))
+each-finite
+    : (n : ℕ) (os : List Piece) → All (PieceOk false n) os
+    → (i : ℕ) → i < length os → T (finiteBox (boxAt (map objectBox os) i))
+each-finite n [] h i l = absurd (omega arith)
+each-finite n (o ∷ os) h zero l = own-finite n o (h .0)
+each-finite n (o ∷ os) h (suc i) l = each-finite n os (h .1) i (omega arith)
 
-pub hull-within : (bs : List Aabb) → 0 < length bs → AllWithin 40000 bs → BoxWithin 40000 (hullFrom nowhere bs)
-unfolding hullFrom
-hull-within [] h q = absurd (not-suc-le-zero h)
-hull-within (b ∷ bs) h q =
-    let p = q 0 (zero-lt-suc (length bs)) in
-    rw (merge-nowhere b (box-finite b p)) (hull-from-within 40000 b bs p (λ i l. q (suc i) (suc-le-suc l)))
-
--- ---- the objects of a plan in order
-module _ (w : List ℕ) (f : List Float) (s : SoundObjects w f) where
-  pub object-box-within : (o : ℕ) → o < countObjects w → BoxWithin 40000 (objectBox w f o)
-  unfolding objectBox
-  object-box-within o h =
-      let own = s .objects .own o h in
-      box-within (headAt w f (objectRow + o) .shape) (headAt w f (objectRow + o) .blend) (own .prim .ranges) (own .blend)
-
-  pub object-box-finite : (o : ℕ) → o < countObjects w → T (finiteBox (objectBox w f o))
-  object-box-finite o h = box-finite (objectBox w f o) (object-box-within o h)
-
-  pub boxes-within : AllWithin 40000 (boxesOf w f)
-  boxes-within i h =
-      let l : i < countObjects w = subst (λ (n : ℕ). i < n) (box-count w f) h in
-      subst (BoxWithin 40000) (sym (box-here w f i l)) (object-box-within i l)
-
-  pub boxes-finite : AllFinite (boxesOf w f)
-  boxes-finite i h = box-finite (boxAt (boxesOf w f) i) (boxes-within i h)
+pub boxes-finite : (a : Plan) → SoundObjects a → (i : ℕ) → i < length (a .objects) → T (finiteBox (boxAt (boxesOf a) i))
+unfolding boxesOf
+boxes-finite a s = each-finite (length (a .materials)) (a .objects) (s .objects .each)

@@ -1,18 +1,15 @@
 -- What the code's loops and stores leave: a node's nine words, and the boxes put one by one. By the laws of `laid`. Assumes nothing.
-use Prim.Native.Nat.{ℕ, suc, _+_, _<_}
+use Prim.Native.Nat.{ℕ, suc, _+_, _≤_, _<_}
 use mathlib.Core.Path.{_≡_, refl, sym, ap, _∙_}
 use mathlib.Core.List.{List, [], _∷_, _++_}
 use native.Mathlib.Numerals.{add-one}
 use native.Mathlib.Omega.{arith}
-use lib.ListN.{length, set}
+use lib.ListN.{length, set, take}
+use lib.Seq.{length-take-le, take-suc, take-all}
 use lib.Ieee.{Float}
 use Rattle.sdf.specs.declared.Aabb.{Aabb}
-use Rattle.words.specs.Lists.{listFrom}
-use Rattle.words.proofs.Runs.{from-snoc, length-from}
-use Rattle.plan.specs.Model.{countObjects}
-use Rattle.bvh_boxes.specs.Boxes.{objectBox, boxesOf, boxAt}
-use Rattle.bvh_boxes.proofs.Lists.{box-here}
-use Rattle.bvh_split.specs.Table.{tableBoxes, putBox}
+use Rattle.bvh_boxes.specs.Boxes.{boxAt, noBox}
+use Rattle.bvh_split.specs.Inside.Table.{tableBoxes, putBox}
 use Rattle.bvh_split.proofs.Table.{boxes-put, length-put-box}
 use Rattle.bvh_build.specs.Encode.{wordFor, nodeWords, laid}
 use Rattle.bvh_build.proofs.Laid.{laid-snoc}
@@ -32,27 +29,27 @@ node-put nw i b start count right x y z x′ y′ z′ p q r p′ q′ r′ =
     let e8 : i + 8 ≡ suc (suc (suc (suc (suc (suc (suc (suc i))))))) = omega arith in
     rw (p, q, r, p′, q′, r′, add-one i, e2, e3, e4, e5, e6, e7, e8)
 
--- ---- the boxes of a plan's objects, put one by one
-module _ (w : List ℕ) (f : List Float) (t₀ : List Float) where
+-- ---- boxes put one by one
+module _ (bs : List Aabb) (t₀ : List Float) where
   abbrev pub Loaded : List Float → ℕ → Type 0
-  Loaded t o = (length t ≡ length t₀) × (tableBoxes t ≡ laid (tableBoxes t₀) 0 (listFrom (objectBox w f) 0 o))
+  Loaded t o = (length t ≡ length t₀) × (tableBoxes t ≡ laid (tableBoxes t₀) 0 (take o bs))
 
   pub load-none : Loaded t₀ 0
-  unfolding laid listFrom
+  unfolding laid
   load-none = (refl, refl)
 
-  pub load-more : (t t′ : List Float) (o : ℕ) (b : Aabb) → o < countObjects w → b ≡ boxAt (boxesOf w f) o → t′ ≡ putBox t o b → Loaded t o → Loaded t′ (o + 1)
+  pub load-more
+      : (t t′ : List Float) (o : ℕ) (b : Aabb) → o < length bs → b ≡ boxAt bs o → t′ ≡ putBox t o b
+      → Loaded t o → Loaded t′ (o + 1)
   load-more t t′ o b l e p h =
-      let z : 0 + o ≡ o = omega arith in
-      let n : 0 + length (listFrom (objectBox w f) 0 o) ≡ o = omega (arith, length-from (objectBox w f) 0 o) in
-      let r : set (laid (tableBoxes t₀) 0 (listFrom (objectBox w f) 0 o)) o (objectBox w f o)
-      ≡ laid (tableBoxes t₀) 0 (listFrom (objectBox w f) 0 o ++ (objectBox w f o ∷ []))
-      = ap (λ (k : ℕ). set (laid (tableBoxes t₀) 0 (listFrom (objectBox w f) 0 o)) k (objectBox w f o)) (sym n)
-      ∙ sym (laid-snoc (tableBoxes t₀) 0 (listFrom (objectBox w f) 0 o) (objectBox w f o)) in (
+      let n : 0 + length (take o bs) ≡ o = omega (arith, length-take-le o bs (omega arith)) in
+      let r : set (laid (tableBoxes t₀) 0 (take o bs)) o (boxAt bs o)
+      ≡ laid (tableBoxes t₀) 0 (take o bs ++ (boxAt bs o ∷ []))
+      = ap (λ (k : ℕ). set (laid (tableBoxes t₀) 0 (take o bs)) k (boxAt bs o)) (sym n)
+      ∙ sym (laid-snoc (tableBoxes t₀) 0 (take o bs) (boxAt bs o)) in (
         ap length p ∙ length-put-box t o b ∙ h .0,
-        rw (p, boxes-put, h .1, e, box-here w f o l, add-one, from-snoc (objectBox w f) 0 o, z) r,
+        rw (p, boxes-put, h .1, e, add-one, take-suc bs o noBox l) r,
       )
 
-  pub load-all : (t : List Float) (o : ℕ) → o ≡ countObjects w → Loaded t o → tableBoxes t ≡ laid (tableBoxes t₀) 0 (boxesOf w f)
-  unfolding boxesOf
-  load-all t o e h = h .1 ∙ ap (λ (k : ℕ). laid (tableBoxes t₀) 0 (listFrom (objectBox w f) 0 k)) e
+  pub load-all : (t : List Float) (o : ℕ) → length bs ≤ o → Loaded t o → tableBoxes t ≡ laid (tableBoxes t₀) 0 bs
+  load-all t o e h = h .1 ∙ ap (laid (tableBoxes t₀) 0) (take-all o bs e)

@@ -1,5 +1,6 @@
--- "The builder follows `build_recursive`, and the count of the range it works on falls at each call." The boxes of objects are bs, a range is a list of object
--- numbers; what is built is a tree and the order that its leaves stand for. Definitions only.
+-- "The builder follows `build_recursive`, and the count of the range it works on falls at each call." The boxes of
+-- objects are bs, a range is a list of object numbers; what is built is a tree and the order that its leaves stand for.
+-- Definitions only.
 use Prim.Native.Nat.{ℕ, zero, suc}
 use mathlib.Core.Bool.{cond}
 use mathlib.Core.List.{List, _++_}
@@ -10,7 +11,7 @@ use Rattle.bvh_split.specs.declared.Span.{Span}
 use Rattle.bvh_split.specs.Range.{spanOf, extentOf, stops}
 use Rattle.bvh_split.specs.Part.{Parted, cutOf}
 
-pub record Made : Type 0 where
+pub record TreeOrder : Type 0 where
   pub tree : Tree
   pub order : List ℕ
 
@@ -20,27 +21,29 @@ pub data Way : Type 0 where
   halves : ℕ → List ℕ → Way
 
 abbrev pub wayBy : List Aabb → List ℕ → Span → Way
-wayBy bs os s = cond (stops (length os) (extentOf (s .centres))) stop (halves (cutOf bs os (s .centres) .mid) (cutOf bs os (s .centres) .order))
+wayBy bs os s =
+    cond (stops (length os) (extentOf (s .centres))) stop
+    (halves (cutOf bs os (s .centres) .mid) (cutOf bs os (s .centres) .order))
 
 unfoldable pub wayOf : List Aabb → List ℕ → Way
 wayOf bs os = wayBy bs os (spanOf bs os)
 
-abbrev pub leafOf : List Aabb → List ℕ → Made
+abbrev pub leafOf : List Aabb → List ℕ → TreeOrder
 leafOf bs os = record { tree = leaf (spanOf bs os .hull) (length os); order = os }
 
-abbrev pub joined : Aabb → Made → Made → Made
+abbrev pub joined : Aabb → TreeOrder → TreeOrder → TreeOrder
 joined b l r = record { tree = node b (l .tree) (r .tree); order = l .order ++ r .order }
 
-abbrev pub onWay : Way → Made → (ℕ → List ℕ → Made) → Made
+abbrev pub onWay : Way → TreeOrder → (ℕ → List ℕ → TreeOrder) → TreeOrder
 onWay stop m f = m
 onWay (halves mid os) m f = f mid os
 
 -- with so many calls left; as many as there are objects are enough
-unfoldable pub buildFrom : ℕ → List Aabb → List ℕ → Made
+unfoldable pub buildFrom : ℕ → List Aabb → List ℕ → TreeOrder
 buildFrom zero bs os = leafOf bs os
 buildFrom (suc k) bs os =
     onWay (wayOf bs os) (leafOf bs os)
     (λ mid parts. joined (spanOf bs os .hull) (buildFrom k bs (take mid parts)) (buildFrom k bs (drop mid parts)))
 
-unfoldable pub buildOf : List Aabb → List ℕ → Made
+unfoldable pub buildOf : List Aabb → List ℕ → TreeOrder
 buildOf bs os = buildFrom (length os) bs os

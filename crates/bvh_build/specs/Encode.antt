@@ -13,7 +13,8 @@ wordFor x = toBits binary32 x
 
 abbrev pub nodeWords : Aabb → ℕ → ℕ → ℕ → List ℕ
 nodeWords b start count right =
-    wordFor (b .lo .x) ∷ wordFor (b .lo .y) ∷ wordFor (b .lo .z) ∷ wordFor (b .hi .x) ∷ wordFor (b .hi .y) ∷ wordFor (b .hi .z) ∷
+    wordFor (b .lo .x) ∷ wordFor (b .lo .y) ∷ wordFor (b .lo .z) ∷
+    wordFor (b .hi .x) ∷ wordFor (b .hi .y) ∷ wordFor (b .hi .z) ∷
     start ∷ count ∷ right ∷ []
 
 -- the tree at place `at` whose first leaf starts at s

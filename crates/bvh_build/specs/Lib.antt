@@ -1,3 +1,4 @@
 pub mod Build
 pub mod Encode
 pub mod Tables
+pub mod Inside

@@ -1,15 +1,26 @@
-// The source's `build_recursive` over lent tables: the nodes, the order cut in two parts at each call, and a table of the objects' boxes.
+// The source's `build_recursive` over lent tables: the nodes, the order cut in two parts at each call, and a table of
+// the objects' boxes.
 ghost use mathlib.Core.Path.{_≡_};
 ghost use Prim.Native.Nat.{_-_, _*_, _≤_, _<_};
 ghost use lib.ListN.{length, replicate};
 ghost use Rattle.words.specs.Lists.{listFrom};
-ghost use Rattle.plan.specs.Model.{countObjects};
+ghost use Rattle.plan.specs.Plan.{planOf};
 ghost use Rattle.bvh_boxes.specs.Boxes.{boxesOf};
-ghost use Rattle.bvh_split.specs.Table.{tableBoxes};
+ghost use Rattle.bvh_split.specs.Inside.Table.{tableBoxes};
 ghost use Rattle.bvh_build.specs.Build.{buildOf};
 ghost use Rattle.bvh_build.specs.Encode.{nodeWords, laid, low32};
-ghost use Rattle.bvh_build.specs.Tables.{Lays, Room, builtOf, Builds, zeroBox};
+ghost use Rattle.bvh_build.specs.Tables.{builtOf};
+ghost use Rattle.bvh_build.specs.Inside.Lays.{Lays, Room, Builds, zeroBox};
+use bvh_rules::Nodes;
+use bvh_rules::Order;
+use plan::Floats;
+use plan::Words;
 use sdf::Aabb;
+
+// The numbers that a word can be, and the floats of the boxes of all objects.
+const WORDS: usize = 4294967296;
+
+const BOXES_FLOATS: usize = 1536;
 
 // The next free place, and whether no node is too deep.
 pub struct Built {
@@ -21,17 +32,17 @@ pub struct Built {
 pub fn narrow(x: usize) -> u32
     ensures { λ r. ⌜ r ≡ low32 x ⌝ }
 {
-    if x < 4294967296 {
+    if x < WORDS {
         return x as u32;
     }
     0
 }
 
-fn put_node(nw: &mut [u32; 4599], at: usize, b: Aabb, start: u32, count: u32, right: u32)
+fn put_node(nw: &mut Nodes, at: usize, b: Aabb, start: u32, count: u32, right: u32)
     ensures { λ _. ⌜ now (nw .exit) ≡ laid (now (nw .entry)) (9 * at) (nodeWords b start count right) ⌝ }
 {
-    if at < 511 {
-        let i = 9 * at;
+    if at < bvh_rules::NODES_MOST {
+        let i = bvh_rules::NODE_WORDS * at;
         nw[i] = scalar::bits(b.lo.x);
         nw[i + 1] = scalar::bits(b.lo.y);
         nw[i + 2] = scalar::bits(b.lo.z);
@@ -55,19 +66,22 @@ fn less(levels: usize) -> usize
     levels - 1
 }
 
-// Builds the tree of a range from place `at` on, its first leaf starting at `start`. A range with no room leaves all as it is.
-pub fn build_recursive(
-    nw: &mut [u32; 4599],
+// Builds the tree of a range from place `at` on, its first leaf starting at `start`. A range with no room leaves all as
+// it is.
+fn build_recursive(
+    nw: &mut Nodes,
     os: &mut [u32],
     t: &[f32],
     at: usize,
     start: usize,
     levels: usize,
 ) -> Built
-    ensures { λ r. ⌜ (Room (now (os .entry)) at start → Lays (buildOf (tableBoxes (now (t .entry))) (now (os .entry))) (now (nw .entry)) at start levels r (now (nw .exit)) (now (os .exit))) ⌝ }
+    ensures { λ r. ⌜ (Room (now (os .entry)) at start
+        → Lays (buildOf (tableBoxes (now (t .entry))) (now (os .entry))) (now (nw .entry)) at start levels r
+        (now (nw .exit)) (now (os .exit))) ⌝ }
 {
     let n = os.len();
-    if at >= 511 {
+    if at >= bvh_rules::NODES_MOST {
         return Built {
             next: at,
             low: false,
@@ -96,8 +110,9 @@ pub fn build_recursive(
 }
 
 // The boxes of a plan's objects, laid over a table.
-fn load_boxes(ws: &[u32; 22288], fs: &[f32; 22288], t: &mut [f32])
-    ensures { λ _. ⌜ tableBoxes (now (t .exit)) ≡ laid (tableBoxes (now (t .entry))) 0 (boxesOf (now (ws .entry)) (now (fs .entry))) ⌝ }
+fn load_boxes(ws: &Words, fs: &Floats, t: &mut [f32])
+    ensures { λ _. ⌜ tableBoxes (now (t .exit))
+        ≡ laid (tableBoxes (now (t .entry))) 0 (boxesOf (planOf (now (ws .entry)) (now (fs .entry)))) ⌝ }
 {
     let n = bvh_rules::object_count(ws);
     let mut o: u32 = 0;
@@ -118,29 +133,25 @@ fn number(os: &mut [u32])
     }
 }
 
-fn build_with(
-    ws: &[u32; 22288],
-    fs: &[f32; 22288],
-    nw: &mut [u32; 4599],
-    os: &mut [u32],
-    t: &mut [f32; 1536],
-) -> Built
-    ensures { λ r. ⌜ (tableBoxes (now (t .entry)) ≡ replicate 256 zeroBox → length (now (os .entry)) ≡ countObjects (now (ws .entry)) → 0 < countObjects (now (ws .entry)) → countObjects (now (ws .entry)) ≤ 256 → Lays (builtOf (now (ws .entry)) (now (fs .entry))) (now (nw .entry)) 0 0 64 r (now (nw .exit)) (now (os .exit))) ⌝ }
+fn build_with(ws: &Words, fs: &Floats, nw: &mut Nodes, os: &mut [u32], t: &mut [f32; 1536]) -> Built
+    ensures { λ r. ⌜ (tableBoxes (now (t .entry)) ≡ replicate 256 zeroBox
+        → length (now (os .entry)) ≡ length (planOf (now (ws .entry)) (now (fs .entry)) .objects)
+        → 0 < length (planOf (now (ws .entry)) (now (fs .entry)) .objects)
+        → length (planOf (now (ws .entry)) (now (fs .entry)) .objects) ≤ 256
+        → Lays (builtOf (planOf (now (ws .entry)) (now (fs .entry)))) (now (nw .entry)) 0 0 64 r
+        (now (nw .exit)) (now (os .exit))) ⌝ }
 {
     load_boxes(ws, fs, t);
     number(os);
-    build_recursive(nw, os, t, 0, 0, 64)
+    build_recursive(nw, os, t, 0, 0, bvh_rules::LEVELS)
 }
 
 // The tree of n objects, the first n places of the order being theirs.
-fn build_front(
-    ws: &[u32; 22288],
-    fs: &[f32; 22288],
-    nw: &mut [u32; 4599],
-    ow: &mut [u32],
-    n: usize,
-) -> Built
-    ensures { λ r. ⌜ (n ≡ countObjects (now (ws .entry)) → length (now (ow .entry)) ≡ 256 → 0 < n → n ≤ 256 → Builds (now (ws .entry)) (now (fs .entry)) (now (nw .entry)) (now (ow .entry)) r (now (nw .exit)) (now (ow .exit))) ⌝ }
+fn build_front(ws: &Words, fs: &Floats, nw: &mut Nodes, ow: &mut [u32], n: usize) -> Built
+    ensures { λ r. ⌜ (n ≡ length (planOf (now (ws .entry)) (now (fs .entry)) .objects) → length (now (ow .entry)) ≡ 256
+        → 0 < n → n ≤ 256
+        → Builds (planOf (now (ws .entry)) (now (fs .entry))) (now (nw .entry)) (now (ow .entry)) r
+        (now (nw .exit)) (now (ow .exit))) ⌝ }
 {
     if n > ow.len() {
         return Built {
@@ -148,18 +159,15 @@ fn build_front(
             low: false,
         };
     }
-    let mut t = [0.0f32; 1536];
+    let mut t = [0.0f32; BOXES_FLOATS];
     build_with(ws, fs, nw, &mut ow[..n], &mut t)
 }
 
 // The tree of a plan's objects, in tables that stand as they are past it.
-pub fn build(
-    ws: &[u32; 22288],
-    fs: &[f32; 22288],
-    nw: &mut [u32; 4599],
-    ow: &mut [u32; 256],
-) -> Built
-    ensures { λ r. ⌜ (countObjects (now (ws .entry)) ≤ 256 → Builds (now (ws .entry)) (now (fs .entry)) (now (nw .entry)) (now (ow .entry)) r (now (nw .exit)) (now (ow .exit))) ⌝ }
+pub fn build(ws: &Words, fs: &Floats, nw: &mut Nodes, ow: &mut Order) -> Built
+    ensures { λ r. ⌜ (length (planOf (now (ws .entry)) (now (fs .entry)) .objects) ≤ 256
+        → Builds (planOf (now (ws .entry)) (now (fs .entry))) (now (nw .entry)) (now (ow .entry)) r
+        (now (nw .exit)) (now (ow .exit))) ⌝ }
 {
     let n = bvh_rules::object_count(ws) as usize;
     if n == 0 {

@@ -15,7 +15,7 @@ use Rattle.bvh_split.specs.declared.Span.{Span}
 use Rattle.bvh_split.specs.Range.{members, grow, spanFrom, spanOf}
 use Rattle.bvh_split.specs.Bins.{gridOf}
 use Rattle.bvh_split.specs.Part.{swapped, goesLeft, partFrom, parted, evened, splitOf, cutOf}
-use Rattle.bvh_split.proofs.Perms.{Perm, All, Apart, perm-length, perm-all, perm-apart, exchange-perm}
+use Rattle.bvh_split.proofs.Perms.{Perm, Each, Apart, perm-length, perm-all, perm-apart, exchange-perm}
 
 pub swapped-perm : (i j : ℕ) (xs : List ℕ) → Perm xs (swapped i j xs)
 unfolding swapped
@@ -79,7 +79,7 @@ module _ (bs : List Aabb) (os : List ℕ) (c : Aabb) where
       let l = part-mid bs (gridOf c) (splitOf bs os c) (length os) 0 0 os (omega arith) in
       evened-inside (partFrom bs (gridOf c) (splitOf bs os c) (length os) 0 0 os .mid) (length os) (omega arith) h
 
-  pub cut-all : (P : ℕ → Type 0) → All P os → All P (cutOf bs os c .order)
+  pub cut-all : (P : ℕ → Type 0) → Each P os → Each P (cutOf bs os c .order)
   cut-all P h = perm-all P cut-once h
 
   pub cut-apart : Apart os → Apart (cutOf bs os c .order)

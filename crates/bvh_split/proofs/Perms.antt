@@ -11,8 +11,8 @@ abbrev pub Perm : List ℕ → List ℕ → Type 0
 Perm xs ys = List·Permᴰ xs ys
 
 -- P holds of all members
-abbrev pub All : (ℕ → Type 0) → List ℕ → Type 0
-All P xs = (i : ℕ) → i < length xs → P (getD xs i 0)
+abbrev pub Each : (ℕ → Type 0) → List ℕ → Type 0
+Each P xs = (i : ℕ) → i < length xs → P (getD xs i 0)
 
 -- no member stands at two places
 abbrev pub Apart : List ℕ → Type 0
@@ -24,7 +24,7 @@ perm-length (List·Permᴰ·cons e p) = ap suc (perm-length p)
 perm-length (List·Permᴰ·swap e e′) = refl
 perm-length (List·Permᴰ·trans p q) = perm-length q ∙ perm-length p
 
-pub perm-all : (P : ℕ → Type 0) {xs ys : List ℕ} → Perm xs ys → All P xs → All P ys
+pub perm-all : (P : ℕ → Type 0) {xs ys : List ℕ} → Perm xs ys → Each P xs → Each P ys
 perm-all P List·Permᴰ·nil h i l = h i l
 perm-all P (List·Permᴰ·cons e p) h zero l = subst P e (h 0 (omega arith))
 perm-all P (List·Permᴰ·cons e p) h (suc i) l = perm-all P p (λ j q. h (suc j) (omega arith)) i (omega arith)

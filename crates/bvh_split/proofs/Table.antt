@@ -14,7 +14,7 @@ use Rattle.sdf.specs.declared.Aabb.{Aabb}
 use Rattle.words.proofs.Laws.{less-or}
 use Rattle.words.proofs.Runs.{getD-from, getD-past, length-from}
 use Rattle.bvh_boxes.specs.Boxes.{boxAt, noBox}
-use Rattle.bvh_split.specs.Table.{boxIn, tableBoxes, putBox}
+use Rattle.bvh_split.specs.Inside.Table.{tableBox, tableBoxes, putBox}
 
 same-or : (i j : ℕ) → (i ≡ j) ⊎ (i ≡ j → ⊥)
 same-or i j =
@@ -22,17 +22,17 @@ same-or i j =
 
 pub box-count : (f : List Float) → length (tableBoxes f) ≡ length f / 6
 unfolding tableBoxes
-box-count f = length-from (boxIn f) 0 (length f / 6)
+box-count f = length-from (tableBox f) 0 (length f / 6)
 
-pub box-here : (f : List Float) (k : ℕ) → k < length f / 6 → boxAt (tableBoxes f) k ≡ boxIn f k
+pub box-here : (f : List Float) (k : ℕ) → k < length f / 6 → boxAt (tableBoxes f) k ≡ tableBox f k
 unfolding tableBoxes
 box-here f k h =
     let z : 0 + k ≡ k = omega arith in
-    getD-from (boxIn f) 0 (length f / 6) k noBox h ∙ ap (boxIn f) z
+    getD-from (tableBox f) 0 (length f / 6) k noBox h ∙ ap (tableBox f) z
 
 pub box-past : (f : List Float) (k : ℕ) → length f / 6 ≤ k → boxAt (tableBoxes f) k ≡ noBox
 unfolding tableBoxes
-box-past f k h = getD-past (boxIn f) 0 (length f / 6) k noBox h
+box-past f k h = getD-past (tableBox f) 0 (length f / 6) k noBox h
 
 -- ---- the six floats of a box put
 abbrev six : Aabb → List Float
@@ -91,12 +91,12 @@ length-put-box f k b =
     ⊎-elim (λ h. rw (put-in f k b h) (length-with f (6 * k) b (omega arith))) (λ h. rw (put-out f k b h)) (less-or k (length f / 6))
 
 -- ---- a box put is read back, and no other changes
-box-same : (f : List Float) (k : ℕ) (b : Aabb) → k < length f / 6 → boxIn (with f (6 * k) b) k ≡ b
+box-same : (f : List Float) (k : ℕ) (b : Aabb) → k < length f / 6 → tableBox (with f (6 * k) b) k ≡ b
 box-same f k b h =
     let g = inner f (6 * k) b (omega arith) in
     rw (rw add-zero at (g 0), g 1, g 2, g 3, g 4, g 5)
 
-box-other : (f : List Float) (k j : ℕ) (b : Aabb) → k < length f / 6 → (j ≡ k → ⊥) → boxIn (with f (6 * k) b) j ≡ boxIn f j
+box-other : (f : List Float) (k j : ℕ) (b : Aabb) → k < length f / 6 → (j ≡ k → ⊥) → tableBox (with f (6 * k) b) j ≡ tableBox f j
 box-other f k j b h n =
     let g : (d : ℕ) → d < 6 → getD (with f (6 * k) b) (6 * j + d) nan ≡ getD f (6 * j + d) nan
     = λ d q. outer f (6 * k) b (omega arith) (6 * j + d)
@@ -122,6 +122,6 @@ boxes-put f k b =
         let r : i < length f / 6 = omega (arith, box-count w) in
         box-here w i (omega arith)
         ∙ ⊎-elim
-        (λ e. ap (boxIn w) e ∙ box-same f k b h ∙ sym (ap (λ (j : ℕ). boxAt (set (tableBoxes f) k b) j) e ∙ getD-set-same (tableBoxes f) k b noBox (omega (arith, box-count f))))
+        (λ e. ap (tableBox w) e ∙ box-same f k b h ∙ sym (ap (λ (j : ℕ). boxAt (set (tableBoxes f) k b) j) e ∙ getD-set-same (tableBoxes f) k b noBox (omega (arith, box-count f))))
         (λ n. box-other f k i b h n ∙ sym (getD-set-other (tableBoxes f) k i b noBox n ∙ box-here f i r))
         (same-or i k))

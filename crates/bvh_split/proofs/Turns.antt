@@ -15,9 +15,10 @@ use Rattle.bvh_boxes.specs.Boxes.{nowhere, merge, boxAt}
 use Rattle.bvh_split.specs.declared.Grid.{Grid}
 use Rattle.bvh_split.specs.declared.Span.{Span}
 use Rattle.bvh_split.specs.declared.Sweep.{Sweep}
-use Rattle.bvh_split.specs.Table.{tableBoxes, putBox}
+use Rattle.bvh_split.specs.Inside.Table.{tableBoxes, putBox}
 use Rattle.bvh_split.specs.Range.{members, grow, spanFrom}
-use Rattle.bvh_split.specs.Bins.{binOf, plus, Bins, binned, noBins, dropIn, binsFrom, area, leftBox, leftCount, leftArea, leftThrough, takeBin, choose, stepAt, sweepFrom, splitBy}
+use Rattle.bvh_split.specs.Bins.{binOf, plus, Bins, noBins, dropIn, binsFrom, area, leftBox, leftCount, takeBin, choose, stepAt, sweepFrom, splitBy}
+use Rattle.bvh_split.specs.Inside.Sums.{binned, leftArea, leftThrough}
 use Rattle.bvh_split.specs.Part.{swapped, goesLeft, Parted, partFrom}
 use Rattle.bvh_split.proofs.Table.{box-count, length-put-box, boxes-put}
 

@@ -15,7 +15,6 @@ use Rattle.refusals.specs.Ranges.{greatest}
 use Rattle.bvh_boxes.specs.Boxes.{nowhere, merge, boxAt}
 use Rattle.bvh_split.specs.declared.Grid.{Grid}
 use Rattle.bvh_split.specs.declared.Sweep.{Sweep}
-use Rattle.bvh_split.specs.Table.{tableBoxes}
 use Rattle.bvh_split.specs.Range.{extentOf, axisOf}
 
 -- 12 and 2
@@ -34,7 +33,8 @@ gridOf c =
       scale = ftwelve ⊘ vaxis (extentOf c) (axisOf (extentOf c));
     }
 
--- "A bin's `as usize` truncates a float: worked out, 0 to 11": toward zero, to the nearest end of the range, and from a NaN to 0
+-- "A bin's `as usize` truncates a float: worked out, 0 to 11": toward zero, to the nearest end of the range, and from a
+-- NaN to 0
 abbrev pub binAt : Float → ℕ
 binAt x = min (toUnsigned 64 x) 11
 
@@ -110,13 +110,3 @@ noSweep = record { hull = nowhere; count = 0; cost = greatest; split = 6 }
 
 unfoldable pub splitBy : Bins → ℕ
 splitBy σ = sweepFrom σ 11 noSweep .split
-
--- ---- the bins and the left sums as the code holds them
-abbrev pub binned : List Float → List ℕ → Bins
-binned f n = record { boxes = tableBoxes f; counts = n }
-
-unfoldable pub leftArea : Bins → ℕ → Float
-leftArea σ i = area (leftBox σ (suc i))
-
-unfoldable pub leftThrough : Bins → ℕ → ℕ
-leftThrough σ i = leftCount σ (suc i)

@@ -1,4 +1,4 @@
-pub mod Table
 pub mod Range
 pub mod Bins
 pub mod Part
+pub mod Inside

@@ -13,7 +13,8 @@ use Rattle.bvh_split.specs.Bins.{gridOf, binOf, noBins, binsFrom, splitB
 
 -- the elements at i and j exchanged, where both are there
 unfoldable pub swapped : ℕ → ℕ → List ℕ → List ℕ
-swapped i j xs = cond (ltb i (length xs)) (cond (ltb j (length xs)) (set (set xs i (getD xs j 0)) j (getD xs i 0)) xs) xs
+swapped i j xs =
+    cond (ltb i (length xs)) (cond (ltb j (length xs)) (set (set xs i (getD xs j 0)) j (getD xs i 0)) xs) xs
 
 unfoldable pub goesLeft : List Aabb → Grid → ℕ → ℕ → Bool
 goesLeft bs g split o = ltb (binOf g (boxAt bs o)) split

@@ -1,5 +1,6 @@
--- The range of objects that a node covers: its box, the box of its centres, and whether it is a leaf. "Leaf at 4 or fewer or centroid extent below 1e-9.
--- At a tie of extents the source's tests decide (x equal to y, above z: axis y)." Definitions only.
+-- The range of objects that a node covers: its box, the box of its centres, and whether it is a leaf. "Leaf at 4 or
+-- fewer or centroid extent below 1e-9. At a tie of extents the source's tests decide (x equal to y, above z: axis y)."
+-- Definitions only.
 use Prim.Native.Nat.{ℕ}
 use mathlib.Core.Bool.{Bool, cond, _&&_, _||_}
 use mathlib.Core.List.{List, [], _∷_}

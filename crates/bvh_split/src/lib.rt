@@ -5,12 +5,33 @@ ghost use Prim.Native.Nat.{_/_};
 ghost use lib.ListN.{length, getD, set, replicate};
 ghost use Rattle.words.specs.Lists.{listFrom};
 ghost use Rattle.bvh_boxes.specs.Boxes.{nowhere, merge, boxAt};
-ghost use Rattle.bvh_split.specs.Table.{tableBoxes, putBox};
 ghost use Rattle.bvh_split.specs.Range.{members, point, grow, spanFrom, spanOf, extentOf, axisOf, stops};
-ghost use Rattle.bvh_split.specs.Bins.{gridOf, binAt, binOf, plus, Bins, noBins, binned, binsFrom, area, leftArea, leftThrough, leftBox, leftCount, asFloat, costOf, choose, takeBin, stepAt, sweepFrom, splitBy};
+ghost use Rattle.bvh_split.specs.Bins.{gridOf, binAt, binOf, plus, Bins, noBins, binsFrom, area, leftBox};
+ghost use Rattle.bvh_split.specs.Bins.{leftCount, asFloat, costOf, choose, takeBin, stepAt, sweepFrom, splitBy};
 ghost use Rattle.bvh_split.specs.Part.{swapped, goesLeft, parted, evened, splitOf, cutOf};
+ghost use Rattle.bvh_split.specs.Inside.Table.{tableBoxes, putBox};
+ghost use Rattle.bvh_split.specs.Inside.Sums.{binned, leftArea, leftThrough};
 use sdf::Aabb;
 use vec::Vec3;
+
+// A box's floats in a table.
+const BOX_FLOATS: usize = 6;
+
+// The bins, their floats, the last bin, the split that is tried first, and the one where none is better.
+const BINS: usize = 12;
+
+const BIN_FLOATS: usize = 72;
+
+const LAST_BIN: usize = 11;
+
+const LAST_SPLIT: u32 = 11;
+
+const MIDDLE: u32 = 6;
+
+// A leaf by its number of objects, and by the extent of their centres.
+const LEAF_MOST: usize = 4;
+
+const NARROWEST: f32 = 0.000000001;
 
 // The box of a range and the box of its centres.
 pub struct Span {
@@ -37,8 +58,8 @@ pub struct Sweep {
 pub fn box_at(t: &[f32], k: usize) -> Aabb
     ensures { λ r. ⌜ r ≡ boxAt (tableBoxes (now (t .entry))) k ⌝ }
 {
-    if k < t.len() / 6 {
-        let i = 6 * k;
+    if k < t.len() / BOX_FLOATS {
+        let i = BOX_FLOATS * k;
         return Aabb {
             lo: Vec3 {
                 x: t[i],
@@ -58,8 +79,8 @@ pub fn box_at(t: &[f32], k: usize) -> Aabb
 pub fn put_box(t: &mut [f32], k: usize, b: Aabb)
     ensures { λ _. ⌜ now (t .exit) ≡ putBox (now (t .entry)) k b ⌝ }
 {
-    if k < t.len() / 6 {
-        let i = 6 * k;
+    if k < t.len() / BOX_FLOATS {
+        let i = BOX_FLOATS * k;
         t[i] = b.lo.x;
         t[i + 1] = b.lo.y;
         t[i + 2] = b.lo.z;
@@ -140,10 +161,10 @@ fn axis_of(e: Vec3) -> u32
 pub fn stops(n: usize, e: Vec3) -> bool
     ensures { λ r. ⌜ r ≡ stops n e ⌝ }
 {
-    if n <= 4 {
+    if n <= LEAF_MOST {
         return true;
     }
-    e.axis(axis_of(e)) < 0.000000001
+    e.axis(axis_of(e)) < NARROWEST
 }
 
 fn grid_of(c: Aabb) -> Grid
@@ -166,7 +187,7 @@ fn bin_at(x: f32) -> usize
         if x < 11.0 {
             return std::num::truncating_f32_to_u64(x) as usize;
         }
-        return 11;
+        return LAST_BIN;
     }
     0
 }
@@ -193,7 +214,7 @@ fn empty_boxes(t: &mut [f32])
     ensures { λ _. ⌜ tableBoxes (now (t .exit)) ≡ replicate (length (now (t .entry)) / 6) nowhere ⌝ }
 {
     let mut k: usize = 0;
-    while k < t.len() / 6 {
+    while k < t.len() / BOX_FLOATS {
         put_box(t, k, bvh_boxes::nowhere());
         k += 1;
     }
@@ -203,7 +224,7 @@ fn empty_boxes(t: &mut [f32])
 fn count_in(n: &mut [u32; 12], k: usize)
     ensures { λ _. ⌜ now (n .exit) ≡ set (now (n .entry)) k (plus (getD (now (n .entry)) k 0) 1) ⌝ }
 {
-    if k < 12 {
+    if k < BINS {
         n[k] = plus(n[k], 1);
     } else {
         let _counts: &[u32] = n;
@@ -212,7 +233,8 @@ fn count_in(n: &mut [u32; 12], k: usize)
 
 // One box more in bin k.
 fn drop_in(t: &mut [f32; 72], n: &mut [u32; 12], k: usize, b: Aabb)
-    ensures { λ _. ⌜ (now (t .exit) ≡ putBox (now (t .entry)) k (merge (boxAt (tableBoxes (now (t .entry))) k) b)) × (now (n .exit) ≡ set (now (n .entry)) k (plus (getD (now (n .entry)) k 0) 1)) ⌝ }
+    ensures { λ _. ⌜ (now (t .exit) ≡ putBox (now (t .entry)) k (merge (boxAt (tableBoxes (now (t .entry))) k) b))
+        × (now (n .exit) ≡ set (now (n .entry)) k (plus (getD (now (n .entry)) k 0) 1)) ⌝ }
 {
     count_in(n, k);
     let m = bvh_boxes::merge(box_at(t, k), b);
@@ -221,7 +243,8 @@ fn drop_in(t: &mut [f32; 72], n: &mut [u32; 12], k: usize, b: Aabb)
 
 // The bins of a range.
 fn fill_bins(os: &[u32], t: &[f32], g: Grid, b: &mut [f32; 72], n: &mut [u32; 12])
-    ensures { λ _. ⌜ binned (now (b .exit)) (now (n .exit)) ≡ binsFrom g (binned (now (b .entry)) (now (n .entry))) (members (tableBoxes (now (t .entry))) (now (os .entry))) ⌝ }
+    ensures { λ _. ⌜ binned (now (b .exit)) (now (n .exit)) ≡ binsFrom g (binned (now (b .entry)) (now (n .entry)))
+        (members (tableBoxes (now (t .entry))) (now (os .entry))) ⌝ }
 {
     let mut i: usize = 0;
     while i < os.len() {
@@ -244,14 +267,15 @@ fn area(b: Aabb) -> f32
 
 // For each bin the area and the count of the bins up to it.
 fn sweep_left(b: &[f32; 72], n: &[u32; 12], areas: &mut [f32; 12], counts: &mut [u32; 12])
-    ensures { λ _. ⌜ (now (areas .exit) ≡ listFrom (leftArea (binned (now (b .entry)) (now (n .entry)))) 0 12) × (now (counts .exit) ≡ listFrom (leftThrough (binned (now (b .entry)) (now (n .entry)))) 0 12) ⌝ }
+    ensures { λ _. ⌜ (now (areas .exit) ≡ listFrom (leftArea (binned (now (b .entry)) (now (n .entry)))) 0 12)
+        × (now (counts .exit) ≡ listFrom (leftThrough (binned (now (b .entry)) (now (n .entry)))) 0 12) ⌝ }
 {
     let _areas: &[f32] = areas;
     let _counts: &[u32] = counts;
     let mut hull = bvh_boxes::nowhere();
     let mut count: u32 = 0;
     let mut i: usize = 0;
-    while i < 12 {
+    while i < BINS {
         hull = bvh_boxes::merge(hull, box_at(b, i));
         count = plus(count, n[i]);
         areas[i] = area(hull);
@@ -301,15 +325,17 @@ fn choose(s: Sweep, la: f32, lc: u32, i: u32) -> Sweep
 
 // The best split, tried from 11 down, given the areas and counts to the left.
 fn sweep_right(b: &[f32; 72], n: &[u32; 12], areas: &[f32; 12], counts: &[u32; 12]) -> u32
-    ensures { λ r. ⌜ (now (areas .entry) ≡ listFrom (leftArea (binned (now (b .entry)) (now (n .entry)))) 0 12 → now (counts .entry) ≡ listFrom (leftThrough (binned (now (b .entry)) (now (n .entry)))) 0 12 → r ≡ splitBy (binned (now (b .entry)) (now (n .entry)))) ⌝ }
+    ensures { λ r. ⌜ (now (areas .entry) ≡ listFrom (leftArea (binned (now (b .entry)) (now (n .entry)))) 0 12
+        → now (counts .entry) ≡ listFrom (leftThrough (binned (now (b .entry)) (now (n .entry)))) 0 12
+        → r ≡ splitBy (binned (now (b .entry)) (now (n .entry)))) ⌝ }
 {
     let mut s = Sweep {
         hull: bvh_boxes::nowhere(),
         count: 0,
-        cost: 3.4028235e38,
-        split: 6,
+        cost: refusals::GREATEST,
+        split: MIDDLE,
     };
-    let mut i: u32 = 11;
+    let mut i: u32 = LAST_SPLIT;
     while i > 0 {
         let k = i as usize;
         let taken = take_bin(s, box_at(b, k), n[k]);
@@ -322,10 +348,10 @@ fn sweep_right(b: &[f32; 72], n: &[u32; 12], areas: &[f32; 12], counts: &[u32; 1
 fn best_split(os: &[u32], t: &[f32], g: Grid) -> u32
     ensures { λ r. ⌜ r ≡ splitBy (binsFrom g noBins (members (tableBoxes (now (t .entry))) (now (os .entry)))) ⌝ }
 {
-    let mut b = [0.0f32; 72];
-    let mut n = [0u32; 12];
-    let mut areas = [0.0f32; 12];
-    let mut counts = [0u32; 12];
+    let mut b = [0.0f32; BIN_FLOATS];
+    let mut n = [0u32; BINS];
+    let mut areas = [0.0f32; BINS];
+    let mut counts = [0u32; BINS];
     empty_boxes(&mut b);
     fill_bins(os, t, g, &mut b, &mut n);
     sweep_left(&b, &n, &mut areas, &mut counts);
@@ -354,7 +380,8 @@ fn swap(os: &mut [u32], i: usize, j: usize)
 
 // Moves the objects of the bins below the split to the front, and answers how many there are.
 fn partition(os: &mut [u32], t: &[f32], g: Grid, split: u32) -> usize
-    ensures { λ r. ⌜ (r ≡ parted (tableBoxes (now (t .entry))) g split (now (os .entry)) .mid) × (now (os .exit) ≡ parted (tableBoxes (now (t .entry))) g split (now (os .entry)) .order) ⌝ }
+    ensures { λ r. ⌜ (r ≡ parted (tableBoxes (now (t .entry))) g split (now (os .entry)) .mid)
+        × (now (os .exit) ≡ parted (tableBoxes (now (t .entry))) g split (now (os .entry)) .order) ⌝ }
 {
     let mut i: usize = 0;
     let mut mid: usize = 0;
@@ -383,7 +410,8 @@ fn evened(mid: usize, n: usize) -> usize
 
 // Partitions a range whose centres lie in c, and answers where it is cut.
 pub fn cut(os: &mut [u32], t: &[f32], c: Aabb) -> usize
-    ensures { λ r. ⌜ (r ≡ cutOf (tableBoxes (now (t .entry))) (now (os .entry)) c .mid) × (now (os .exit) ≡ cutOf (tableBoxes (now (t .entry))) (now (os .entry)) c .order) ⌝ }
+    ensures { λ r. ⌜ (r ≡ cutOf (tableBoxes (now (t .entry))) (now (os .entry)) c .mid)
+        × (now (os .exit) ≡ cutOf (tableBoxes (now (t .entry))) (now (os .entry)) c .order) ⌝ }
 {
     let n = os.len();
     let g = grid_of(c);

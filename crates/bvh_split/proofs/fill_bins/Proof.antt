@@ -4,9 +4,10 @@ use Prim.Native.Nat.{_≤_, _-_}
 use mathlib.Core.Path.{_≡_, refl, sym, _∙_}
 use native.Mathlib.Omega.{arith}
 use lib.ListN.{length, drop}
-use Rattle.bvh_split.specs.Table.{tableBoxes}
+use Rattle.bvh_split.specs.Inside.Table.{tableBoxes}
 use Rattle.bvh_split.specs.Range.{members}
-use Rattle.bvh_split.specs.Bins.{binned, binsFrom}
+use Rattle.bvh_split.specs.Bins.{binsFrom}
+use Rattle.bvh_split.specs.Inside.Sums.{binned}
 use Rattle.bvh_split.proofs.Turns.{bins-turn, bins-none}
 use Rattle.bvh_split.proofs.fill_bins.Statement.{statement}
 use Rattle.bvh_split.proofs.fill_bins.Tie as tie

@@ -7,7 +7,7 @@ use mathlib.Core.Logic.{⊎-elim}
 use native.Mathlib.Nat.{sub-zero}
 use native.Mathlib.Omega.{arith}
 use lib.ListN.{length}
-use Rattle.bvh_split.specs.Table.{tableBoxes}
+use Rattle.bvh_split.specs.Inside.Table.{tableBoxes}
 use Rattle.bvh_split.specs.Part.{partFrom, parted}
 use Rattle.bvh_split.proofs.Cuts.{length-swapped}
 use Rattle.bvh_split.proofs.Turns.{part-more, part-none}

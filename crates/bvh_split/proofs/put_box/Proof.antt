@@ -3,7 +3,7 @@ use borrow.Author.Needs.{needs}
 use native.Mathlib.Omega.{arith}
 use lib.ListN.{length-set}
 use borrow.Author.Tests.{lt-ltb, le-ltb}
-use Rattle.bvh_split.specs.Table.{putBox}
+use Rattle.bvh_split.specs.Inside.Table.{putBox}
 use Rattle.bvh_split.proofs.put_box.Statement.{statement}
 use Rattle.bvh_split.proofs.put_box.Tie as tie
 

@@ -4,7 +4,7 @@ use Prim.Native.Nat.{_≤_, _-_}
 use mathlib.Core.Path.{_≡_, sym, _∙_}
 use native.Mathlib.Omega.{arith}
 use lib.ListN.{length, drop}
-use Rattle.bvh_split.specs.Table.{tableBoxes}
+use Rattle.bvh_split.specs.Inside.Table.{tableBoxes}
 use Rattle.bvh_split.specs.Range.{members, spanFrom, spanOf}
 use Rattle.bvh_split.proofs.Turns.{span-more, span-none}
 use Rattle.bvh_split.proofs.span_of.Statement.{statement}

@@ -4,7 +4,8 @@ use Prim.Native.Nat.{_≤_}
 use mathlib.Core.Path.{_≡_, sym, ap, _∙_}
 use native.Mathlib.Omega.{arith}
 use Rattle.words.specs.Lists.{listFrom}
-use Rattle.bvh_split.specs.Bins.{binned, leftArea, leftThrough, noSweep, sweepFrom, splitBy}
+use Rattle.bvh_split.specs.Bins.{noSweep, sweepFrom, splitBy}
+use Rattle.bvh_split.specs.Inside.Sums.{binned, leftArea, leftThrough}
 use Rattle.bvh_split.specs.declared.Sweep.{Sweep}
 use Rattle.bvh_split.proofs.Turns.{sweep-more, sweep-none}
 use Rattle.bvh_split.proofs.sweep_right.Statement.{statement}

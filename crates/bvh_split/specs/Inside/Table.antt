@@ -7,17 +7,17 @@ use lib.Dec.{ltb}
 use lib.Ieee.{Float}
 use Rattle.sdf.specs.declared.Aabb.{Aabb}
 use Rattle.words.specs.Lists.{listFrom}
-use Rattle.plan.specs.Model.{floatOf}
+use Rattle.plan.specs.Records.{floatOf}
 
-abbrev pub boxIn : List Float → ℕ → Aabb
-boxIn f k =
+abbrev pub tableBox : List Float → ℕ → Aabb
+tableBox f k =
     record {
       lo = record { x = floatOf f (6 * k); y = floatOf f (6 * k + 1); z = floatOf f (6 * k + 2) };
       hi = record { x = floatOf f (6 * k + 3); y = floatOf f (6 * k + 4); z = floatOf f (6 * k + 5) };
     }
 
 unfoldable pub tableBoxes : List Float → List Aabb
-tableBoxes f = listFrom (boxIn f) 0 (length f / 6)
+tableBoxes f = listFrom (tableBox f) 0 (length f / 6)
 
 -- the table with box k put in place, where it has such a place
 unfoldable pub putBox : List Float → ℕ → Aabb → List Float
