@@ -1,8 +1,8 @@
 -- What each public call replies. before is a number that applies already, w and f are a call's table as words and as floats. Definitions only.
 use Prim.Native.Nat.{ℕ, _+_, _*_}
-use mathlib.Core.Bool.{Bool, _&&_, cond}
+use mathlib.Core.Bool.{_&&_, cond}
 use mathlib.Core.List.{List}
-use lib.Dec.{leb, ltb, eqb}
+use lib.Dec.{eqb}
 use lib.Ieee.{Float, binary32, toBits}
 use Rattle.root.specs.Root.{rootOf}
 use Rattle.scalar.specs.F32.{f1}
@@ -76,16 +76,9 @@ abbrev pub argWord : List ℕ → ℕ → ℕ
 argWord w k = wordOf w (16 * argsRow + k)
 
 -- ---- by the tree where `tree` is 1, by the plain list where it is 0
--- no number from k on is lower than n
-unfoldable pub decides : ℕ → ℕ → Bool
-decides n k = ltb 0 n && leb n k
-
 -- the number of the standing tree, where it is used
-abbrev pub treeNumber : ℕ → List ℕ → List Float → ℕ
+unfoldable pub treeNumber : ℕ → List ℕ → List Float → ℕ
 treeNumber tree w f = cond (eqb tree 1) (standingNumber (nodesOf w) (nodesOf f) (orderOf w) (boxesOf (planOf w f))) 0
-
-unfoldable pub withTree : ℕ → ℕ → List ℕ → List Float → ℕ
-withTree n tree w f = lower n (treeNumber tree w f)
 
 -- ---- "`viewer_query` goes over the objects alone, from the bound given" (any finite number)
 unfoldable pub queryNumber : ℕ → List ℕ → List Float → ℕ
@@ -101,7 +94,7 @@ searchedReply s = foundReply (s .hit) (s .popped) (s .evaluated)
 
 unfoldable pub queryReply : ℕ → ℕ → List ℕ → List Float → Reply
 queryReply before tree w f =
-    replyOf (withTree (queryNumber before w f) tree w f) (searchedReply (hitBy tree w f (argVec f 0) (queryBound w f)))
+    replyOf (lower (queryNumber before w f) (treeNumber tree w f)) (searchedReply (hitBy tree w f (argVec f 0) (queryBound w f)))
 
 -- ---- the source's `dist_mat`: planes, then objects
 unfoldable pub distMatNumber : ℕ → List ℕ → List Float → ℕ
@@ -110,4 +103,4 @@ distMatNumber before w f =
 
 unfoldable pub distMatReply : ℕ → ℕ → List ℕ → List Float → Reply
 distMatReply before tree w f =
-    replyOf (withTree (distMatNumber before w f) tree w f) (foundReply (fieldBy tree w f (argVec f 0)) 0 0)
+    replyOf (lower (distMatNumber before w f) (treeNumber tree w f)) (foundReply (fieldBy tree w f (argVec f 0)) 0 0)
