@@ -53,11 +53,8 @@ pub fn run() -> Result<(), String> {
     pair("bounds, any", &inputs, ours_bounds, |i| {
         i.prim.bounds().unwrap()
     });
-    #[cfg(feature = "plan")]
-    {
-        crate::plan::bench::run();
-        crate::tree::bench::run();
-    }
+    crate::plan::bench::run();
+    crate::tree::bench::run();
     Ok(())
 }
 
@@ -79,7 +76,6 @@ pub fn pair<I, A, B>(
 }
 
 /// The same where the Rust has nothing to put beside ours.
-#[cfg(feature = "plan")]
 pub fn alone<I, A>(name: &str, inputs: &[I], mut ours: impl FnMut(&I) -> A) -> f64 {
     let mut least = f64::MAX;
     for _ in 0..TURNS {

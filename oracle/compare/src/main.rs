@@ -9,12 +9,10 @@ mod check;
 mod draw;
 mod gate;
 mod judge;
-#[cfg(feature = "plan")]
 mod plan;
 mod rng;
 mod store;
 mod sweep;
-#[cfg(feature = "plan")]
 mod tree;
 mod viewer;
 mod words;
@@ -26,9 +24,9 @@ const USAGE: &str = "\
 compare gate          the comparisons of every change, some seconds
 compare sweep root    every f32 from 0 to f32::MAX
 compare sweep acos    every f32 from -1 to 1
-compare plan [PART]   calls on plans, at length (with the feature `plan`)
-compare tree [PART]   trees built, offered and searched, at length (likewise)
-compare stack         bytes of stack that each call uses (likewise)
+compare plan [PART]   calls on plans, at length
+compare tree [PART]   trees built, offered and searched, at length
+compare stack         bytes of stack that each call uses
 compare bench         times, ours beside the Rust's
 compare store FILE    writes the answers that are replayed without Rust";
 
@@ -38,15 +36,10 @@ fn main() -> ExitCode {
     let result = match args[..] {
         ["gate"] => gate::run(),
         ["sweep", which] => sweep::run(which),
-        #[cfg(feature = "plan")]
         ["plan"] => plan::run(),
-        #[cfg(feature = "plan")]
         ["plan", part] => plan::run_one(part),
-        #[cfg(feature = "plan")]
         ["tree"] => tree::run(),
-        #[cfg(feature = "plan")]
         ["tree", part] => tree::run_one(part),
-        #[cfg(feature = "plan")]
         ["stack"] => {
             tree::stack::tell();
             Ok(())

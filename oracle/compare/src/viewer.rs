@@ -36,7 +36,6 @@ pub fn send(call: Call, args: &[u8], out: &mut [u8]) -> u32 {
 }
 
 /// The calls that are lent a plan.
-#[cfg(feature = "plan")]
 pub mod plan {
     use crate::plan::{Lent, PlanCall};
 

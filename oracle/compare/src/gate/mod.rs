@@ -6,6 +6,7 @@ mod refusals;
 mod root;
 mod shapes;
 
+use crate::{plan, tree};
 use std::time::Instant;
 
 /// A comparison: a line that says what was compared, or the first difference.
@@ -19,17 +20,8 @@ const PARTS: [Part; 5] = [
     ("refusals", refusals::run),
 ];
 
-#[cfg(feature = "plan")]
-fn plan_parts() -> Vec<Part> {
-    [&crate::plan::GATE[..], &crate::tree::GATE].concat()
-}
-#[cfg(not(feature = "plan"))]
-fn plan_parts() -> Vec<Part> {
-    Vec::new()
-}
-
 pub fn run() -> Result<(), String> {
-    run_parts("gate", &[&PARTS[..], &plan_parts()].concat())
+    run_parts("gate", &[&PARTS[..], &plan::GATE, &tree::GATE].concat())
 }
 
 pub fn run_parts(whole: &str, parts: &[Part]) -> Result<(), String> {
