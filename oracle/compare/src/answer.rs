@@ -23,6 +23,7 @@ pub fn answer(call: Call, args: &[u32]) -> [u32; OUT_WORDS] {
                 out[3 + i] = hi[i].to_bits();
             }
         }
+        _ => call.stray(),
     }
     out
 }

@@ -3,11 +3,9 @@
 
 use crate::answer::{prim, vec3};
 use crate::call::{Call, MOST_ARGS, OUT_BYTES};
-use crate::draw;
 use crate::judge::{self, KINDS};
 use crate::rng::Rng;
-use crate::viewer;
-use crate::words;
+use crate::{draw, viewer, words};
 use glam::Vec3;
 use interflect::acos;
 use interflect::sdf::Prim;

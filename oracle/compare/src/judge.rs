@@ -98,6 +98,7 @@ fn judge_args(call: Call, args: &[u32], lowest: &mut Lowest) {
             judge_prim(args[0], &args[1..9], lowest);
             lowest.apply(WRONG_KIND, args[0] == PLANE);
         }
+        _ => call.stray(),
     }
 }
 

@@ -6,11 +6,13 @@
 
 use crate::answer::answer;
 use crate::call::{Call, OUT_BYTES, OUT_WORDS};
-use crate::cases::{degenerate::degenerate, limits::limits, rows::rows, Case};
-use crate::draw;
+use crate::cases::degenerate::degenerate;
+use crate::cases::limits::limits;
+use crate::cases::rows::rows;
+use crate::cases::Case;
 use crate::judge::{self, DONE, KINDS};
 use crate::rng::Rng;
-use crate::words;
+use crate::{draw, words};
 use std::fs;
 
 const RECORD_WORDS: usize = 32;
@@ -79,7 +81,7 @@ fn record(call: Call, args: &[u32]) -> [u32; RECORD_WORDS] {
         _ => [0; OUT_WORDS],
     };
     let mut record = [0; RECORD_WORDS];
-    record[0] = Call::ALL.iter().position(|&c| c == call).unwrap() as u32;
+    record[0] = call as u32;
     record[1] = number;
     record[ARGS..ARGS + args.len()].copy_from_slice(args);
     record[OUT..].copy_from_slice(&out);

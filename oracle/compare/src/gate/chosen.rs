@@ -2,7 +2,10 @@
 
 use crate::answer::answer;
 use crate::call::OUT_BYTES;
-use crate::cases::{degenerate::degenerate, limits::limits, rows::rows, Case};
+use crate::cases::degenerate::degenerate;
+use crate::cases::limits::limits;
+use crate::cases::rows::rows;
+use crate::cases::Case;
 use crate::check::expect;
 use crate::words;
 

@@ -4,10 +4,9 @@ use crate::call::{Call, MOST_ARGS, OUT_BYTES};
 use crate::cases::limits::{number_of_sound, sound, NOT_FINITE, UNKNOWN_KINDS};
 use crate::cases::prim_args;
 use crate::check::{check, expect};
-use crate::draw;
 use crate::judge::{self, BAD_WORD, CAPSULE, DONE, NO_EXTENT, NO_ROOM, PLANE, WRONG_KIND};
 use crate::rng::Rng;
-use crate::words;
+use crate::{draw, words};
 
 const MIXED: usize = 400_000;
 
@@ -16,7 +15,7 @@ const PAST: usize = 24;
 
 pub fn run() -> Result<String, String> {
     let mut count = 0;
-    for call in Call::ALL {
+    for &call in Call::SCALAR {
         count += lengths(call)?;
     }
     count += several_reasons()?;
@@ -48,6 +47,7 @@ fn by_content(call: Call) -> Vec<(Vec<u32>, u32)> {
             kinds.push((point_capsule(-0.5), BAD_WORD));
             kinds
         }
+        _ => call.stray(),
     }
 }
 
@@ -115,7 +115,7 @@ fn mixed() -> Result<[usize; 10], String> {
     let mut out = [0; 8 + OUT_BYTES + PAST];
     let mut sent = [0; 10];
     for _ in 0..MIXED {
-        let call = rng.pick(&Call::ALL);
+        let call = rng.pick(Call::SCALAR);
         let words = faulty(&mut rng, call);
         let first = rng.below(8);
         words::put(&mut args[first..], &words);

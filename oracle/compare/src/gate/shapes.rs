@@ -2,10 +2,9 @@
 
 use crate::call::{Call, MOST_ARGS, OUT_BYTES};
 use crate::check::check;
-use crate::draw;
 use crate::judge::{DONE, KINDS};
 use crate::rng::Rng;
-use crate::words;
+use crate::{draw, words};
 
 const CASES: usize = 9_000_000;
 

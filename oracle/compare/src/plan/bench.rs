@@ -1,15 +1,14 @@
 //! Times of calls on a plan. Ours read and test the plan each time that they are made, while the
 //! source has its objects at hand: the lines without the Rust's show what that costs.
 
-use super::call::PlanCall;
 use super::draw::{self, ROOM};
 use super::layout::{List, CUTTERS, OBJECTS};
 use super::lent::Lent;
 use super::model::{Piece, Plan};
-use super::sound;
-use super::source;
+use super::{sound, source};
 use crate::answer::vec3;
 use crate::bench::{alone, pair};
+use crate::call::Call;
 use crate::rng::Rng;
 use crate::viewer;
 
@@ -40,7 +39,7 @@ pub fn run() {
     lent.args(&full.objects[last].args(|| 0));
     alone("entry, last object", &points, |_| {
         lent.plan.put(List::Objects as usize, &[last as u32]);
-        viewer::plan::send(PlanCall::AddObject, &mut lent)
+        viewer::lend(Call::AddObject, &mut lent)
     });
 }
 
@@ -64,7 +63,7 @@ pub fn points(rng: &mut Rng) -> Vec<[u32; 5]> {
 
 pub fn ask(lent: &mut Lent, args: &[u32; 5]) -> u32 {
     lent.args.put(0, args);
-    viewer::plan::send(PlanCall::Query, lent)
+    viewer::lend(Call::Query, lent)
 }
 
 fn query(name: &str, rng: &mut Rng, plan: &Plan) {

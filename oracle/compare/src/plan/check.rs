@@ -1,29 +1,27 @@
 //! One call on a plan compared whole: the number sent and each byte that was lent or lies about.
 
-use super::call::PlanCall;
-use super::exit;
-use super::judge;
 use super::layout::{NODES_WORDS, NODE_WORDS, SECTIONS};
 use super::lent::{Lent, Table};
+use super::{exit, judge};
+use crate::call::Call;
 use crate::check::same;
 use crate::tree::table::START;
-use crate::viewer;
-use crate::words;
+use crate::{viewer, words};
 use interflect::scene::Scene;
 use std::fmt::Write;
 
 /// Calls our library and compares; gives the number sent, or what differs and on which inputs.
-pub fn check(call: PlanCall, lent: &mut Lent) -> Result<u32, String> {
+pub fn check(call: Call, lent: &mut Lent) -> Result<u32, String> {
     compare(call, lent, None)
 }
 
 /// The same, where the plan's scene is at hand.
-pub fn check_in(scene: &Scene, call: PlanCall, lent: &mut Lent) -> Result<u32, String> {
+pub fn check_in(scene: &Scene, call: Call, lent: &mut Lent) -> Result<u32, String> {
     compare(call, lent, Some(scene))
 }
 
 /// The same, where the number is known beforehand, so that the judge is tested too.
-pub fn expect(call: PlanCall, lent: &mut Lent, number: u32) -> Result<(), String> {
+pub fn expect(call: Call, lent: &mut Lent, number: u32) -> Result<(), String> {
     let judged = judge::number(call, lent);
     if judged != number {
         let what = format!("our judge says {judged}, the case says {number}");
@@ -33,11 +31,11 @@ pub fn expect(call: PlanCall, lent: &mut Lent, number: u32) -> Result<(), String
     check(call, lent).map(|_| ())
 }
 
-fn compare(call: PlanCall, lent: &mut Lent, scene: Option<&Scene>) -> Result<u32, String> {
+fn compare(call: Call, lent: &mut Lent, scene: Option<&Scene>) -> Result<u32, String> {
     lent.out.mark();
     let number = judge::number(call, lent);
     exit::tell(call, number, lent, scene);
-    let sent = viewer::plan::send(call, lent);
+    let sent = viewer::lend(call, lent);
     if sent != number {
         let what = format!("sent {sent}, must send {number}");
         return Err(different(call, lent, &what));
@@ -62,11 +60,11 @@ fn compare(call: PlanCall, lent: &mut Lent, scene: Option<&Scene>) -> Result<u32
 
 /// A distance is compared as a float, and so are the corners of a tree that was built: zeros of
 /// both signs are equal.
-fn as_floats(call: PlanCall, lent: &mut Lent) {
+fn as_floats(call: Call, lent: &mut Lent) {
     if call.asks() {
         take_zeros(&mut lent.out, 0..1);
     }
-    if call == PlanCall::Build {
+    if call == Call::Build {
         let corner = |i: &usize| i % NODE_WORDS < START;
         take_zeros(&mut lent.nodes, (0..NODES_WORDS).filter(corner));
     }
@@ -111,7 +109,7 @@ fn place(i: usize) -> String {
     })
 }
 
-fn different(call: PlanCall, lent: &Lent, what: &str) -> String {
+fn different(call: Call, lent: &Lent, what: &str) -> String {
     let lines = [
         format!("{}: {what}", call.name()),
         format!(
@@ -137,9 +135,9 @@ fn different(call: PlanCall, lent: &Lent, what: &str) -> String {
 }
 
 /// The tree that the call reads, in words, without the zeros at its end.
-fn trees(call: PlanCall, lent: &Lent) -> String {
+fn trees(call: Call, lent: &Lent) -> String {
     let (nodes, order) = match call {
-        PlanCall::Offer => (&lent.offered_nodes, &lent.offered_order),
+        Call::Offer => (&lent.offered_nodes, &lent.offered_order),
         _ if call.asks() && lent.tree == 1 => (&lent.nodes, &lent.order),
         _ => return "no tree is read".to_string(),
     };

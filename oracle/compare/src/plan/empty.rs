@@ -1,13 +1,12 @@
 //! Plans of no objects beside tables that hold anything, and plans that are empty though every
 //! word but the counts holds anything: what is past the counts is not read.
 
-use super::call::PlanCall;
 use super::check::expect;
-use super::draw;
 use super::layout::*;
 use super::lent::{Lent, Table};
 use super::model::Plan;
-use super::sound;
+use super::{draw, sound};
+use crate::call::Call;
 use crate::cases::limits::NOT_FINITE;
 use crate::judge::{BAD_WORD, DONE, NO_ROOM};
 use crate::rng::Rng;
@@ -20,7 +19,7 @@ pub fn run() -> Result<String, String> {
     let mut count = 0;
     for turn in 0..TURNS {
         for junk_in_the_plan in [false, true] {
-            for call in PlanCall::ALL {
+            for call in Call::on_plans() {
                 for &tree in call.trees() {
                     let mut lent = lend(&mut rng, turn, junk_in_the_plan);
                     lent.tree = tree;
@@ -32,7 +31,7 @@ pub fn run() -> Result<String, String> {
     Ok(format!("{count} calls"))
 }
 
-fn of_call(rng: &mut Rng, call: PlanCall, lent: &mut Lent) -> Result<usize, String> {
+fn of_call(rng: &mut Rng, call: Call, lent: &mut Lent) -> Result<usize, String> {
     if call.asks() && lent.tree == 0 {
         // By the list the tree's tables are not looked at.
         lent.nodes.resize(rng.below(NODES_BYTES + 64));
@@ -56,7 +55,7 @@ fn of_call(rng: &mut Rng, call: PlanCall, lent: &mut Lent) -> Result<usize, Stri
 
 /// The empty tree always stands, and what is offered is not judged; but tables of trees may not be
 /// short.
-fn short_tables(rng: &mut Rng, call: PlanCall, lent: &mut Lent) -> Result<usize, String> {
+fn short_tables(rng: &mut Rng, call: Call, lent: &mut Lent) -> Result<usize, String> {
     type Pick = fn(&mut Lent) -> &mut Table;
     let looked_at: [(Pick, usize, bool); 4] = [
         (
@@ -72,12 +71,12 @@ fn short_tables(rng: &mut Rng, call: PlanCall, lent: &mut Lent) -> Result<usize,
         (
             |lent| &mut lent.offered_nodes,
             NODES_BYTES,
-            call == PlanCall::Offer,
+            call == Call::Offer,
         ),
         (
             |lent| &mut lent.offered_order,
             ORDER_BYTES,
-            call == PlanCall::Offer,
+            call == Call::Offer,
         ),
     ];
     let mut count = 0;
@@ -113,12 +112,12 @@ fn lend(rng: &mut Rng, turn: usize, junk_in_the_plan: bool) -> Lent {
     lent
 }
 
-fn args(rng: &mut Rng, call: PlanCall) -> Vec<u32> {
+fn args(rng: &mut Rng, call: Call) -> Vec<u32> {
     let mut args = sound::args(call);
     if call.asks() {
         args[..3].copy_from_slice(&draw::point(rng, &Plan::default()));
     }
-    if call == PlanCall::Query {
+    if call == Call::Query {
         args[3] = (rng.unit() * 2.0 - 1.0).to_bits();
         args[4] = rng.word();
     }
@@ -129,20 +128,21 @@ fn args(rng: &mut Rng, call: PlanCall) -> Vec<u32> {
 }
 
 /// Words of `args` that may not be infinite.
-fn judged(call: PlanCall) -> &'static [usize] {
+fn judged(call: Call) -> &'static [usize] {
     match call {
-        PlanCall::AddMaterial | PlanCall::AddLight => &[0, 4],
-        PlanCall::AddPlane | PlanCall::AddObject => &[BLEND, SHAPE, ROW + 1],
-        PlanCall::Build | PlanCall::Offer => &[],
-        PlanCall::Query => &[0, 1, 2, 3],
-        PlanCall::DistMat => &[0, 1, 2],
+        Call::AddMaterial | Call::AddLight => &[0, 4],
+        Call::AddPlane | Call::AddObject => &[BLEND, SHAPE, ROW + 1],
+        Call::Build | Call::Offer => &[],
+        Call::Query => &[0, 1, 2, 3],
+        Call::DistMat => &[0, 1, 2],
+        _ => call.stray(),
     }
 }
 
 /// The bound and its word come back, or `f32::MAX` and 0. Nothing is popped or evaluated.
-fn nothing_found(call: PlanCall, lent: &Lent, args: &[u32]) -> Result<(), String> {
+fn nothing_found(call: Call, lent: &Lent, args: &[u32]) -> Result<(), String> {
     let want = match call {
-        PlanCall::Query => [args[3], args[4], 0, 0],
+        Call::Query => [args[3], args[4], 0, 0],
         _ => [f32::MAX.to_bits(), 0, 0, 0],
     };
     let have = [0, 1, 2, 3].map(|i| lent.out.word(i));

@@ -1,12 +1,11 @@
 //! Tables of all lengths about their full size, and longer ones: what a table of that length
 //! gets, whether its words are sound or not, is written out here, apart from the judge.
 
-use super::call::PlanCall;
 use super::check::expect;
 use super::layout::*;
 use super::lent::{Lent, Table};
 use super::sound;
-use crate::call::OUT_BYTES;
+use crate::call::{Call, OUT_BYTES};
 use crate::judge::{BAD_WORD, DONE, NO_ROOM};
 
 const NAN: u32 = 0x7fc0_0000;
@@ -16,7 +15,7 @@ const PAST: usize = 72;
 
 pub fn run() -> Result<String, String> {
     let mut count = 0;
-    for call in PlanCall::ALL {
+    for call in Call::on_plans() {
         for &tree in call.trees() {
             for broken in Broken::ALL {
                 let case = Case { call, tree, broken };
@@ -49,7 +48,7 @@ impl Broken {
 
 #[derive(Clone, Copy)]
 struct Case {
-    call: PlanCall,
+    call: Call,
     tree: u32,
     broken: Broken,
 }
@@ -99,12 +98,9 @@ impl Case {
             full,
             looked_at,
         };
-        let written = matches!(
-            self.call,
-            PlanCall::AddObject | PlanCall::Build | PlanCall::Offer
-        );
+        let written = matches!(self.call, Call::AddObject | Call::Build | Call::Offer);
         let tree = written || self.tree == 1;
-        let offered = self.call == PlanCall::Offer;
+        let offered = self.call == Call::Offer;
         [
             whole(|lent| &mut lent.plan, PLAN_BYTES, true),
             whole(|lent| &mut lent.nodes, NODES_BYTES, tree),

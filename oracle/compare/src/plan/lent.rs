@@ -1,9 +1,8 @@
 //! What a call is lent, beside what it must be after the call.
 
-use super::call::PlanCall;
 use super::layout::*;
 use super::model::Plan;
-use crate::call::OUT_BYTES;
+use crate::call::{Call, OUT_BYTES};
 use crate::tree::make;
 use crate::tree::table::Tables;
 use crate::words;
@@ -194,7 +193,7 @@ impl Lent {
     }
 
     /// Whether the call looks at `nodes` and `order`.
-    pub fn looks_at_tree(&self, call: PlanCall) -> bool {
+    pub fn looks_at_tree(&self, call: Call) -> bool {
         call.writes_tree() || (call.asks() && self.tree == 1)
     }
 

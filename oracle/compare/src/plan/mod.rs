@@ -3,7 +3,6 @@
 //! and VIEWER.md; `check` makes the call and compares. The other files have the cases.
 
 pub mod bench;
-pub mod call;
 pub mod check;
 mod damage;
 pub mod draw;
@@ -21,7 +20,6 @@ pub mod queries;
 pub mod sound;
 pub mod source;
 
-pub use call::PlanCall;
 pub use lent::Lent;
 
 use crate::gate::{run_parts, Part};

@@ -1,8 +1,7 @@
 //! A plan as lists of values, and as the words of its table. Floats stand as their bits.
 
 use super::layout::*;
-use crate::judge;
-use crate::words;
+use crate::{judge, words};
 
 /// A kind and its words, with 0 in those that the kind does not use.
 #[derive(Clone, Copy, Debug, PartialEq)]

@@ -1,14 +1,13 @@
 //! Queries by the plain list on random plans: distance and material as the source's, no node
 //! popped, every object evaluated.
 
-use super::call::PlanCall;
 use super::check::check_in;
-use super::draw;
 use super::judge::BOUND;
 use super::lent::Lent;
 use super::model::{Piece, Plan};
-use super::source;
+use super::{draw, source};
 use crate::answer::vec3;
+use crate::call::Call;
 use crate::draw::within;
 use crate::judge::DONE;
 use crate::rng::Rng;
@@ -80,14 +79,14 @@ fn of_plan(
     for _ in 0..points {
         let point = draw::point(rng, plan);
         lent.args(&point);
-        let sent = check_in(&scene, PlanCall::DistMat, &mut lent)?;
+        let sent = check_in(&scene, Call::DistMat, &mut lent)?;
         assert_eq!(sent, DONE, "plans and points are drawn sound");
 
         let near = source::query(&scene, vec3(&point), f32::MAX, 0);
         let bound = bound(rng, near.d);
         let word = rng.word();
         lent.args(&[&point[..], &[bound.to_bits(), word]].concat());
-        let sent = check_in(&scene, PlanCall::Query, &mut lent)?;
+        let sent = check_in(&scene, Call::Query, &mut lent)?;
         assert_eq!(sent, DONE, "plans and points are drawn sound");
 
         if near.d < bound {

@@ -1,8 +1,8 @@
 //! Chosen values well inside the domain, of which single words are then changed.
 
-use super::call::PlanCall;
 use super::layout::{List, LIGHT_WORDS};
 use super::model::{Light, Material, Piece, Plan, Prim};
+use crate::call::Call;
 use crate::cases::limits;
 use crate::judge::PLANE;
 
@@ -46,16 +46,17 @@ pub fn plan() -> Plan {
 }
 
 /// Args that the call accepts on that plan. A piece has two cutters.
-pub fn args(call: PlanCall) -> Vec<u32> {
+pub fn args(call: Call) -> Vec<u32> {
     let point = [1.0, -2.0, 3.5].map(f32::to_bits);
     match call {
-        PlanCall::AddMaterial => material().to_vec(),
-        PlanCall::AddLight => light().to_vec(),
-        PlanCall::AddPlane => piece(PLANE, &[3, 0]).args(|| 0),
-        PlanCall::AddObject => piece(3, &[3, 0]).args(|| 0),
-        PlanCall::Build | PlanCall::Offer => Vec::new(),
-        PlanCall::Query => [&point[..], &[100f32.to_bits(), 77]].concat(),
-        PlanCall::DistMat => point.to_vec(),
+        Call::AddMaterial => material().to_vec(),
+        Call::AddLight => light().to_vec(),
+        Call::AddPlane => piece(PLANE, &[3, 0]).args(|| 0),
+        Call::AddObject => piece(3, &[3, 0]).args(|| 0),
+        Call::Build | Call::Offer => Vec::new(),
+        Call::Query => [&point[..], &[100f32.to_bits(), 77]].concat(),
+        Call::DistMat => point.to_vec(),
+        _ => call.stray(),
     }
 }
 

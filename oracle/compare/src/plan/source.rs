@@ -1,10 +1,9 @@
 //! The answers of the source itself, by the plain list and by a tree.
 
-use super::call::PlanCall;
 use super::lent::Lent;
 use super::model::{Piece, Plan};
 use crate::answer::{prim, vec3};
-use crate::call::OUT_WORDS;
+use crate::call::{Call, OUT_WORDS};
 use crate::check::same;
 use crate::tree::judged;
 use crate::words;
@@ -58,7 +57,7 @@ pub fn query(scene: &Scene, point: Vec3, bound: f32, material: u32) -> DistHit {
 }
 
 /// The scene of what is lent to an accepted call that asks.
-fn read(call: PlanCall, lent: &Lent) -> Scene {
+fn read(call: Call, lent: &Lent) -> Scene {
     let mut scene = scene(&Plan::read(lent.plan.bytes(), call.tests()));
     if lent.tree == 1 {
         scene.bvh = judged::for_the_source(lent, &scene.objects);
@@ -68,7 +67,7 @@ fn read(call: PlanCall, lent: &Lent) -> Scene {
 }
 
 /// The `out` of an accepted call that asks.
-pub fn answer(call: PlanCall, lent: &Lent, scene: Option<&Scene>) -> [u32; OUT_WORDS] {
+pub fn answer(call: Call, lent: &Lent, scene: Option<&Scene>) -> [u32; OUT_WORDS] {
     let of_its_own;
     let scene = match scene {
         Some(scene) => scene,
@@ -81,7 +80,7 @@ pub fn answer(call: PlanCall, lent: &Lent, scene: Option<&Scene>) -> [u32; OUT_W
     let args = words::all(lent.args.bytes());
     let point = vec3(&args);
     let mut out = [0; OUT_WORDS];
-    let hit = if call == PlanCall::Query {
+    let hit = if call == Call::Query {
         let hit = query(scene, point, f32::from_bits(args[3]), args[4]);
         [out[2], out[3]] = counts(lent, scene, &args, hit);
         hit

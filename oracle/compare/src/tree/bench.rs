@@ -5,10 +5,11 @@ use super::make::{self, Form, Slack};
 use super::source::{boxes, build};
 use crate::answer::vec3;
 use crate::bench::{alone, pair};
+use crate::call::Call;
 use crate::plan::bench::{ask, plan, points};
 use crate::plan::layout::{NODES, OBJECTS};
 use crate::plan::model::Plan;
-use crate::plan::{source, Lent, PlanCall};
+use crate::plan::{source, Lent};
 use crate::rng::Rng;
 use crate::viewer;
 use interflect::bvh::Bvh;
@@ -23,7 +24,7 @@ pub fn run() {
     pair(
         "build, 256 objects",
         &[(); 8],
-        |_| viewer::plan::send(PlanCall::Build, &mut lent),
+        |_| viewer::lend(Call::Build, &mut lent),
         |_| Bvh::build(&scene.objects),
     );
     for objects in [4, 16, 64, 256] {
@@ -104,9 +105,7 @@ fn offers(rng: &mut Rng, full: &Plan, scene: &Scene) {
     let offer = |name: &str, plan: &Plan, tables| {
         let mut lent = Lent::new(plan, 0);
         lent.offer(tables);
-        let time = alone(name, &[(); 32], |_| {
-            viewer::plan::send(PlanCall::Offer, &mut lent)
-        });
+        let time = alone(name, &[(); 32], |_| viewer::lend(Call::Offer, &mut lent));
         (time, lent.out.word(0) as usize)
     };
     let (whole, nodes) = offer("offer, 511 nodes", full, &tree);

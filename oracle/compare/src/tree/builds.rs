@@ -4,8 +4,8 @@
 use super::draw;
 use super::rules::{NO_TREE, TOO_DEEP};
 use crate::answer::vec3;
+use crate::call::Call;
 use crate::judge::DONE;
-use crate::plan::call::PlanCall;
 use crate::plan::check::{check, check_in, expect};
 use crate::plan::draw::point;
 use crate::plan::lent::Lent;
@@ -79,7 +79,7 @@ fn of_plan(
         lent.nodes.fill(|i| i as u8);
         lent.order.fill(|i| !i as u8);
     }
-    if check(PlanCall::Build, &mut lent)? == TOO_DEEP {
+    if check(Call::Build, &mut lent)? == TOO_DEEP {
         tally.deep += 1;
         tally.overrun += usize::from(overruns(&scene));
         return no_tree(&mut lent);
@@ -102,7 +102,7 @@ fn differs(bvh: &Bvh, lent: &Lent) -> bool {
 
 /// After a build that went too deep nothing stands, though the list still answers.
 fn no_tree(lent: &mut Lent) -> Result<(), String> {
-    for call in PlanCall::ASKS {
+    for &call in Call::ASKS {
         lent.args(&sound::args(call));
         for (tree, number) in [(0, DONE), (1, NO_TREE)] {
             lent.tree = tree;
@@ -146,10 +146,10 @@ fn ask(
         scene.use_bvh = tree == 1;
         lent.tree = tree;
         lent.args(&point);
-        let sent = check_in(scene, PlanCall::DistMat, lent)?;
+        let sent = check_in(scene, Call::DistMat, lent)?;
         assert_eq!(sent, DONE, "plans and points are drawn sound");
         lent.args(&[&point[..], &bound].concat());
-        let sent = check_in(scene, PlanCall::Query, lent)?;
+        let sent = check_in(scene, Call::Query, lent)?;
         assert_eq!(sent, DONE, "plans and points are drawn sound");
         answers.push([0, 1, 3].map(|i| lent.out.word(i)));
     }

@@ -6,9 +6,8 @@ use super::rows::powers;
 use super::rules::{BAD_TREE, NO_TREE, TOO_DEEP};
 use super::source::{boxes, build};
 use super::table::{Bounds, Node, Tables, COUNT, RIGHT, START};
-use crate::call::OUT_BYTES;
+use crate::call::{Call, OUT_BYTES};
 use crate::judge::{BAD_WORD, DONE, NO_EXTENT, NO_ROOM, WRONG_KIND};
-use crate::plan::call::PlanCall;
 use crate::plan::check::expect;
 use crate::plan::judge::NO_MATERIAL;
 use crate::plan::layout::*;
@@ -45,7 +44,7 @@ impl Cases {
         self.lent = Lent::new(plan, self.count);
     }
 
-    fn hold(&mut self, call: PlanCall, number: u32) -> Result<(), String> {
+    fn hold(&mut self, call: Call, number: u32) -> Result<(), String> {
         self.count += 1;
         self.lent.args(&sound::args(call));
         expect(call, &mut self.lent, number)
@@ -53,7 +52,7 @@ impl Cases {
 
     /// Both calls that ask, by the list and by the tree that stands.
     fn ask(&mut self, by_tree: u32) -> Result<(), String> {
-        for call in PlanCall::ASKS {
+        for &call in Call::ASKS {
             for (tree, number) in [(0, DONE), (1, by_tree), (2, BAD_WORD), (u32::MAX, BAD_WORD)] {
                 self.lent.tree = tree;
                 self.hold(call, number)?;
@@ -66,7 +65,7 @@ impl Cases {
     fn offer(&mut self, tree: &Tables, number: u32) -> Result<(), String> {
         self.lent.any_tree();
         self.lent.offer(tree);
-        self.hold(PlanCall::Offer, number)?;
+        self.hold(Call::Offer, number)?;
         // A refusal has left what stood, an accepted offer stands itself.
         self.ask(DONE)?;
         self.lent.stand(tree);
@@ -102,28 +101,24 @@ fn bounds(plan: &Plan) -> Vec<Bounds> {
 fn drops(cases: &mut Cases) -> Result<(), String> {
     cases.plan(&sound::plan());
     cases.ask(NO_TREE)?;
-    cases.hold(PlanCall::Build, DONE)?;
+    cases.hold(Call::Build, DONE)?;
     cases.ask(DONE)?;
     let former = Tables::read(cases.lent.nodes.bytes(), cases.lent.order.bytes());
-    for call in [
-        PlanCall::AddMaterial,
-        PlanCall::AddPlane,
-        PlanCall::AddLight,
-    ] {
+    for call in [Call::AddMaterial, Call::AddPlane, Call::AddLight] {
         cases.hold(call, DONE)?;
         cases.ask(DONE)?;
     }
-    cases.hold(PlanCall::AddObject, DONE)?;
+    cases.hold(Call::AddObject, DONE)?;
     cases.ask(NO_TREE)?;
     // It was the tree of three objects, and is none of four.
     cases.lent.offer(&former);
-    cases.hold(PlanCall::Offer, BAD_TREE)?;
+    cases.hold(Call::Offer, BAD_TREE)?;
     cases.ask(NO_TREE)?;
-    cases.hold(PlanCall::Build, DONE)?;
+    cases.hold(Call::Build, DONE)?;
     cases.ask(DONE)?;
     // A refused entry leaves the tree.
     cases.lent.args(&sound::piece(2, &[]).args(|| 0));
-    expect(PlanCall::AddObject, &mut cases.lent, WRONG_KIND)?;
+    expect(Call::AddObject, &mut cases.lent, WRONG_KIND)?;
     cases.ask(DONE)
 }
 
@@ -149,7 +144,7 @@ fn depths(cases: &mut Cases) -> Result<(), String> {
                 cases.offer(&tree, number)?;
             } else {
                 cases.lent.offer(&tree);
-                cases.hold(PlanCall::Offer, number)?;
+                cases.hold(Call::Offer, number)?;
             }
         }
     }
@@ -249,7 +244,7 @@ fn deep_builds(cases: &mut Cases) -> Result<(), String> {
         cases.plan(&plan);
         cases.lent.any_tree();
         shorten(&mut cases.lent);
-        cases.hold(PlanCall::Build, NO_ROOM)?;
+        cases.hold(Call::Build, NO_ROOM)?;
     }
     // The first sphere lies at the end of the chain; as another shape it has words of zeros.
     for (word, value, number) in BROKEN {
@@ -258,16 +253,16 @@ fn deep_builds(cases: &mut Cases) -> Result<(), String> {
         cases.plan(&plan);
         cases.lent.any_tree();
         cases.lent.plan.put(OBJECTS.at(0) + word, &[value]);
-        cases.hold(PlanCall::Build, number)?;
-        cases.hold(PlanCall::Offer, number)?;
+        cases.hold(Call::Build, number)?;
+        cases.hold(Call::Offer, number)?;
     }
     cases.plan(&plan);
     cases.lent.any_tree();
     cases.ask(DONE)?;
-    cases.hold(PlanCall::Build, TOO_DEEP)?;
+    cases.hold(Call::Build, TOO_DEEP)?;
     cases.ask(NO_TREE)?;
     // It may still be offered a tree that is not so deep.
-    cases.hold(PlanCall::Offer, DONE)?;
+    cases.hold(Call::Offer, DONE)?;
     cases.ask(DONE)
 }
 
@@ -289,8 +284,8 @@ fn deep_offers(cases: &mut Cases) -> Result<(), String> {
     cases.lent.any_tree();
     cases.lent.offer(&deep);
     cases.lent.out.resize(OUT_BYTES - 1);
-    cases.hold(PlanCall::Offer, NO_ROOM)?;
+    cases.hold(Call::Offer, NO_ROOM)?;
     cases.lent.out.resize(OUT_BYTES);
     cases.lent.plan.put(OBJECTS.at(0) + MATERIAL, &[3]);
-    cases.hold(PlanCall::Offer, NO_MATERIAL)
+    cases.hold(Call::Offer, NO_MATERIAL)
 }

@@ -6,8 +6,8 @@ use super::rules::{judge, BAD_TREE, NO_TREE, TOO_DEEP};
 use super::strike::{strike, Does};
 use super::table::{Bounds, Tables};
 use super::{draw, source};
+use crate::call::Call;
 use crate::judge::DONE;
-use crate::plan::call::PlanCall;
 use crate::plan::check::{check, expect};
 use crate::plan::draw::point;
 use crate::plan::lent::Lent;
@@ -92,11 +92,11 @@ impl Case {
         }
         self.lent.offer(&tree);
         if let Some(number) = known {
-            expect(PlanCall::Offer, &mut self.lent, number)?;
+            expect(Call::Offer, &mut self.lent, number)?;
             tally.known += 1;
         }
         // Again, since the same offer on the tree that now stands must end likewise.
-        let sent = check(PlanCall::Offer, &mut self.lent)?;
+        let sent = check(Call::Offer, &mut self.lent)?;
         tally.offered[sent as usize] += 1;
         self.stand(rng, &tree, sent, tally)
     }
@@ -111,10 +111,10 @@ impl Case {
     ) -> Result<(), String> {
         self.lent.stand(tree);
         self.lent.tree = 1;
-        let call = rng.pick(&PlanCall::ASKS);
+        let call = rng.pick(Call::ASKS);
         let mut args = sound::args(call);
         args[..3].copy_from_slice(&point(rng, &self.plan));
-        if call == PlanCall::Query {
+        if call == Call::Query {
             args[3] = rng.pick(&[f32::MAX, 1.0, 0.0, -f32::MAX]).to_bits();
         }
         self.lent.args(&args);

@@ -3,8 +3,8 @@
 use super::rules::TOO_DEEP;
 use super::source::tables;
 use super::table::{Bounds, Node, Tables};
+use crate::call::Call;
 use crate::judge::DONE;
-use crate::plan::call::PlanCall;
 use crate::plan::check::expect;
 use crate::plan::layout::{NODES_WORDS, ORDER_WORDS};
 use crate::plan::lent::Lent;
@@ -59,12 +59,12 @@ fn node(from: f32, to: f32, [start, count, right]: [u32; 3]) -> Node {
 fn built(xs: &[f32], number: u32) -> Result<Lent, String> {
     let mut lent = Lent::new(&Plan::default(), 3);
     lent.args(&sound::material());
-    expect(PlanCall::AddMaterial, &mut lent, DONE)?;
+    expect(Call::AddMaterial, &mut lent, DONE)?;
     for sphere in plan(xs).objects {
         lent.args(&sphere.args(|| 0));
-        expect(PlanCall::AddObject, &mut lent, DONE)?;
+        expect(Call::AddObject, &mut lent, DONE)?;
     }
-    expect(PlanCall::Build, &mut lent, number)?;
+    expect(Call::Build, &mut lent, number)?;
     Ok(lent)
 }
 

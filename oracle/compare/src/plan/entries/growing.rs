@@ -1,7 +1,7 @@
 //! A plan that grows call by call, beside a model that only pushes on lists.
 
+use crate::call::Call;
 use crate::judge::{DONE, NO_ROOM};
-use crate::plan::call::PlanCall;
 use crate::plan::check::expect;
 use crate::plan::draw::{self, Style};
 use crate::plan::judge::NO_MATERIAL;
@@ -20,12 +20,12 @@ pub enum Thing {
 }
 
 impl Thing {
-    pub fn call(&self) -> PlanCall {
+    pub fn call(&self) -> Call {
         match self {
-            Thing::Material(_) => PlanCall::AddMaterial,
-            Thing::Plane(_) => PlanCall::AddPlane,
-            Thing::Light(_) => PlanCall::AddLight,
-            Thing::Object(_) => PlanCall::AddObject,
+            Thing::Material(_) => Call::AddMaterial,
+            Thing::Plane(_) => Call::AddPlane,
+            Thing::Light(_) => Call::AddLight,
+            Thing::Object(_) => Call::AddObject,
         }
     }
 

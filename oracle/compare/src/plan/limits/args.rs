@@ -1,9 +1,9 @@
 //! The words of `args`.
 
 use super::{entry, kinds, Cases, ABSENT, TOO_MANY};
+use crate::call::Call;
 use crate::cases::limits::{about, NOT_FINITE, UNKNOWN_KINDS};
 use crate::judge::{self, BAD_WORD, COORD, DONE, KINDS, NO_ROOM, POINT, RADIUS, WRONG_KIND};
-use crate::plan::call::PlanCall;
 use crate::plan::judge::{BOUND, EMISSION, NO_MATERIAL, UNIT};
 use crate::plan::layout::*;
 use crate::plan::model::used;
@@ -13,10 +13,10 @@ use crate::plan::sound;
 pub fn simple(cases: &mut Cases) -> Result<(), String> {
     let light = [vec![COORD; 12], vec![EMISSION; 3]].concat();
     let ranges = [
-        (PlanCall::AddMaterial, vec![UNIT; 5]),
-        (PlanCall::AddLight, light),
-        (PlanCall::Query, vec![POINT, POINT, POINT, BOUND]),
-        (PlanCall::DistMat, vec![POINT; 3]),
+        (Call::AddMaterial, vec![UNIT; 5]),
+        (Call::AddLight, light),
+        (Call::Query, vec![POINT, POINT, POINT, BOUND]),
+        (Call::DistMat, vec![POINT; 3]),
     ];
     for (call, ranges) in ranges {
         cases.args(&sound::args(call));
@@ -26,11 +26,11 @@ pub fn simple(cases: &mut Cases) -> Result<(), String> {
             }
         }
     }
-    cases.args(&sound::args(PlanCall::Query));
+    cases.args(&sound::args(Call::Query));
     for word in NOT_FINITE.into_iter().chain([0, 3, 64, u32::MAX]) {
-        cases.with_args(PlanCall::Query, 4, word, DONE)?;
+        cases.with_args(Call::Query, 4, word, DONE)?;
     }
-    for call in PlanCall::ASKS {
+    for &call in Call::ASKS {
         for tree in [2, 3, 8, 0x100, 0x101, 0x1_0000, 0x8000_0000, u32::MAX] {
             cases.bad_tree = Some(tree);
             cases.args(&sound::args(call));
@@ -71,7 +71,7 @@ pub fn piece(list: List, cases: &mut Cases) -> Result<(), String> {
 }
 
 /// A kind and its words, of the piece or of a cutter.
-fn shape(call: PlanCall, at: usize, kind: u32, cases: &mut Cases) -> Result<(), String> {
+fn shape(call: Call, at: usize, kind: u32, cases: &mut Cases) -> Result<(), String> {
     for (i, &range) in judge::ranges(kind).unwrap().iter().enumerate() {
         for (word, number) in about(range, DONE) {
             cases.with_args(call, at + 1 + i, word, number)?;

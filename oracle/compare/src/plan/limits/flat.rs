@@ -1,8 +1,8 @@
 //! Capsules and lights of no extent.
 
 use super::{entry, Cases};
+use crate::call::Call;
 use crate::judge::{CAPSULE, DONE, NO_EXTENT, WRONG_KIND};
-use crate::plan::call::PlanCall;
 use crate::plan::layout::List;
 use crate::plan::model::{Piece, Prim};
 use crate::plan::sound;
@@ -53,7 +53,7 @@ fn in_the_plan(list: List, piece: Piece, number: u32, cases: &mut Cases) -> Resu
         _ => plan.objects.push(piece),
     }
     cases.plan(&plan);
-    for call in PlanCall::ALL {
+    for call in Call::on_plans() {
         let tested = call.tests().contains(&list);
         cases.args(&sound::args(call));
         cases.hold(call, &[], &[], if tested { number } else { DONE })?;
@@ -84,7 +84,7 @@ pub fn lights(cases: &mut Cases) -> Result<(), String> {
             for (e1, e2) in [(e1, e2), (e2, e1)] {
                 let corners = [[0.0; 3], e1, third, e2].concat();
                 cases.args(&words::bits(&[&corners[..], &[1.0; 3]].concat()));
-                cases.hold(PlanCall::AddLight, &[], &[], number)?;
+                cases.hold(Call::AddLight, &[], &[], number)?;
             }
         }
     }

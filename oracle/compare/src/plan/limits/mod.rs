@@ -6,12 +6,12 @@ mod flat;
 mod pieces;
 mod whole;
 
-use super::call::PlanCall;
 use super::check::expect;
 use super::layout::List;
 use super::lent::Lent;
 use super::model::{Piece, Plan, Prim};
 use super::sound;
+use crate::call::Call;
 use crate::judge::{DONE, KINDS, PLANE};
 use crate::words;
 
@@ -64,7 +64,7 @@ impl Cases {
     /// that stands for the objects as they then are.
     fn hold(
         &mut self,
-        call: PlanCall,
+        call: Call,
         args: &[(usize, u32)],
         plan: &[(usize, u32)],
         number: u32,
@@ -87,13 +87,7 @@ impl Cases {
         Ok(())
     }
 
-    fn with_args(
-        &mut self,
-        call: PlanCall,
-        i: usize,
-        word: u32,
-        number: u32,
-    ) -> Result<(), String> {
+    fn with_args(&mut self, call: Call, i: usize, word: u32, number: u32) -> Result<(), String> {
         self.hold(call, &[(i, word)], &[], number)
     }
 
@@ -106,7 +100,7 @@ impl Cases {
         word: u32,
         number: u32,
     ) -> Result<(), String> {
-        for call in PlanCall::ALL {
+        for call in Call::on_plans() {
             let tested = list.is_none_or(|list| call.tests().contains(&list));
             self.args(&sound::args(call));
             self.hold(call, &[], &[(i, word)], if tested { number } else { DONE })?;
@@ -131,7 +125,7 @@ fn rows(cases: &mut Cases) -> Result<(), String> {
     cases.args(&[0, 0, 0]);
     for (name, plan, answer) in [("P9", p9, 1.0), ("P10", Plan::default(), f32::MAX)] {
         cases.plan(&plan);
-        cases.hold(PlanCall::DistMat, &[], &[], DONE)?;
+        cases.hold(Call::DistMat, &[], &[], DONE)?;
         let have = [0, 1].map(|i| cases.lent.out.word(i));
         if have != [f32::to_bits(answer), 0] {
             let have = words::show_all(&have);
@@ -153,9 +147,9 @@ const ABSENT: [u32; 7] = [3, 4, 64, 0x100, 0x1_0000, 1 << 31, u32::MAX];
 /// Words that are no number of cutters, some of which overflow when a length is worked out.
 const TOO_MANY: [u32; 9] = [9, 10, 16, 0x100, 0x108, 1 << 26, 1 << 28, 1 << 31, u32::MAX];
 
-fn entry(list: List) -> PlanCall {
+fn entry(list: List) -> Call {
     match list {
-        List::Planes => PlanCall::AddPlane,
-        _ => PlanCall::AddObject,
+        List::Planes => Call::AddPlane,
+        _ => Call::AddObject,
     }
 }

@@ -1,9 +1,9 @@
 //! Counts, sums over pieces, and all that is not read.
 
 use super::Cases;
+use crate::call::Call;
 use crate::cases::limits::NOT_FINITE;
 use crate::judge::{BAD_WORD, DONE, NO_ROOM, PLANE};
-use crate::plan::call::PlanCall;
 use crate::plan::judge::NO_MATERIAL;
 use crate::plan::layout::*;
 use crate::plan::model::{cutters_of, used, Plan};
@@ -22,7 +22,7 @@ pub fn counts(cases: &mut Cases) -> Result<(), String> {
         for more in [1, 2, most, 0x100, 0x1_0000, 1 << 31, u32::MAX - most] {
             cases.with_plan(None, list as usize, most + more, NO_ROOM)?;
         }
-        for call in PlanCall::ALL {
+        for call in Call::on_plans() {
             cases.args(&sound::args(call));
             // Among planes such a record is at place 0, where 1,024 must stand.
             let misplaced = list == List::Planes && call.tests().contains(&list);
@@ -36,7 +36,7 @@ pub fn counts(cases: &mut Cases) -> Result<(), String> {
         materials: Vec::new(),
         ..sound::plan()
     });
-    for call in PlanCall::ALL {
+    for call in Call::on_plans() {
         cases.args(&sound::args(call));
         let tested = !call.tests().is_empty();
         cases.hold(call, &[], &[], if tested { NO_MATERIAL } else { DONE })?;
@@ -59,7 +59,7 @@ pub fn sums(cases: &mut Cases) -> Result<(), String> {
         table[PLANES.first + CUTS] = of_plane;
         table[PLANES.first + PLACE] = 1_024 - of_plane;
         cases.base.plan.put(0, &table);
-        for call in PlanCall::ALL {
+        for call in Call::on_plans() {
             let mut args = sound::args(call);
             if call.args_words() == ROW {
                 args[CUTS] = 0;
@@ -82,7 +82,7 @@ pub fn sums(cases: &mut Cases) -> Result<(), String> {
         table[OBJECTS.at(i) + PLACE] = 8 * i as u32;
     }
     cases.base.plan.put(0, &table);
-    for call in PlanCall::ALL {
+    for call in Call::on_plans() {
         cases.args(&sound::args(call));
         let tested = !call.tests().is_empty();
         cases.hold(call, &[], &[], if tested { NO_ROOM } else { DONE })?;

@@ -5,9 +5,9 @@ mod base;
 mod reason;
 mod reasons;
 
-use super::call::PlanCall;
 use super::check::expect;
 use super::lent::Lent;
+use crate::call::Call;
 use crate::judge::{DONE, NO_ROOM};
 use base::Base;
 use reason::Reason;
@@ -17,8 +17,8 @@ pub fn run(together: usize) -> Result<String, String> {
     let mut sent = [0; 10];
     for crowded in [false, true] {
         let base = Base::new(crowded);
-        for call in PlanCall::ALL {
-            let piece = matches!(call, PlanCall::AddPlane | PlanCall::AddObject);
+        for call in Call::on_plans() {
+            let piece = matches!(call, Call::AddPlane | Call::AddObject);
             for &tree in call.trees() {
                 let mut sets = Sets {
                     call,
@@ -36,7 +36,7 @@ pub fn run(together: usize) -> Result<String, String> {
 }
 
 struct Sets<'a> {
-    call: PlanCall,
+    call: Call,
     /// Whatever else there is, what is to enter finds no room for its cutters.
     crowded: bool,
     reasons: Vec<Reason>,

@@ -2,9 +2,8 @@
 
 use super::base::{Base, UPRIGHT};
 use super::reason::{Change, Of, Reason};
-use crate::call::OUT_BYTES;
+use crate::call::{Call, OUT_BYTES};
 use crate::judge::{BAD_WORD, CAPSULE, NO_EXTENT, NO_ROOM, PLANE, WRONG_KIND};
-use crate::plan::call::PlanCall;
 use crate::plan::judge::NO_MATERIAL;
 use crate::plan::layout::*;
 use crate::plan::sound;
@@ -27,7 +26,7 @@ impl Reasons {
     }
 }
 
-pub fn reasons(call: PlanCall, tree: u32, base: &Base) -> Vec<Reason> {
+pub fn reasons(call: Call, tree: u32, base: &Base) -> Vec<Reason> {
     let mut reasons = Reasons(Vec::new());
     lent(call, &mut reasons);
     trees(call, tree, &mut reasons);
@@ -39,7 +38,7 @@ pub fn reasons(call: PlanCall, tree: u32, base: &Base) -> Vec<Reason> {
     reasons.0
 }
 
-fn lent(call: PlanCall, reasons: &mut Reasons) {
+fn lent(call: Call, reasons: &mut Reasons) {
     reasons.add(NO_ROOM, Of::Lent, [OutLength(OUT_BYTES - 1)]);
     reasons.add(NO_ROOM, Of::PlanLength, [PlanLength(PLAN_BYTES - 1)]);
     if call.args_words() > 0 {
@@ -52,11 +51,8 @@ fn lent(call: PlanCall, reasons: &mut Reasons) {
 }
 
 /// Tables of trees that are short, and trees that break a rule.
-fn trees(call: PlanCall, tree: u32, reasons: &mut Reasons) {
-    let written = matches!(
-        call,
-        PlanCall::AddObject | PlanCall::Build | PlanCall::Offer
-    );
+fn trees(call: Call, tree: u32, reasons: &mut Reasons) {
+    let written = matches!(call, Call::AddObject | Call::Build | Call::Offer);
     if written || tree == 1 {
         reasons.add(NO_ROOM, Of::Lent, [NodesLength(NODES_BYTES - 1)]);
         reasons.add(NO_ROOM, Of::Lent, [OrderLength(ORDER_BYTES - 1)]);
@@ -65,7 +61,7 @@ fn trees(call: PlanCall, tree: u32, reasons: &mut Reasons) {
         reasons.add(NO_TREE, Of::Lent, [Change::Nodes(0, NAN)]);
         reasons.add(NO_TREE, Of::Lent, [Change::Order(0, 1)]);
     }
-    if call == PlanCall::Offer {
+    if call == Call::Offer {
         let lengths = [
             Change::OfferedNodesLength(NODES_BYTES - 1),
             Change::OfferedOrderLength(ORDER_BYTES - 1),
@@ -78,7 +74,7 @@ fn trees(call: PlanCall, tree: u32, reasons: &mut Reasons) {
     }
 }
 
-fn counts(call: PlanCall, base: &Base, reasons: &mut Reasons) {
+fn counts(call: Call, base: &Base, reasons: &mut Reasons) {
     let count = |list: List, count: u32| [Change::Plan(list as usize, count)];
     for list in List::ALL {
         let most = list.section().records as u32;
@@ -146,18 +142,18 @@ fn pieces(list: List, base: &Base, reasons: &mut Reasons) {
     }
 }
 
-fn args(call: PlanCall, reasons: &mut Reasons) {
+fn args(call: Call, reasons: &mut Reasons) {
     let given = |(i, word)| Args(i, word);
     match call {
-        PlanCall::Build | PlanCall::Offer => {}
-        PlanCall::AddMaterial | PlanCall::DistMat => {
+        Call::Build | Call::Offer => {}
+        Call::AddMaterial | Call::DistMat => {
             reasons.add(BAD_WORD, Of::Args, [Args(0, NAN)]);
         }
-        PlanCall::Query => {
+        Call::Query => {
             reasons.add(BAD_WORD, Of::Args, [Args(0, NAN)]);
             reasons.add(BAD_WORD, Of::Args, [Args(3, NAN)]);
         }
-        PlanCall::AddLight => {
+        Call::AddLight => {
             reasons.add(BAD_WORD, Of::Args, [Args(12, NAN)]);
             // The second corner at the first; the fourth at the first; the fourth at the second.
             for (corner, at) in [(3, 0), (9, 0), (9, 3)] {
@@ -165,7 +161,7 @@ fn args(call: PlanCall, reasons: &mut Reasons) {
                 reasons.add(NO_EXTENT, Of::Args, [0, 1, 2].map(word));
             }
         }
-        PlanCall::AddPlane | PlanCall::AddObject => {
+        Call::AddPlane | Call::AddObject => {
             reasons.add(NO_MATERIAL, Of::Args, [Args(MATERIAL, 3)]);
             reasons.add(BAD_WORD, Of::Args, [Args(BLEND, NAN)]);
             reasons.add(BAD_WORD, Of::Args, [Args(KIND, 7)]);
@@ -175,7 +171,7 @@ fn args(call: PlanCall, reasons: &mut Reasons) {
             reasons.add(BAD_WORD, Of::ArgsCutters, [Args(ROW, 7)]);
             reasons.add(BAD_WORD, Of::ArgsCutters, [Args(2 * ROW + 4, NAN)]);
             reasons.add(NO_EXTENT, Of::ArgsCutters, flat(ROW).map(given));
-            if call == PlanCall::AddPlane {
+            if call == Call::AddPlane {
                 reasons.add(WRONG_KIND, Of::Args, [Args(KIND, 0)]);
                 reasons.add(NO_EXTENT, Of::Args, flat_from_any(KIND).map(given));
             } else {
@@ -183,5 +179,6 @@ fn args(call: PlanCall, reasons: &mut Reasons) {
                 reasons.add(NO_EXTENT, Of::Args, flat(KIND).map(given));
             }
         }
+        _ => call.stray(),
     }
 }
