@@ -6,9 +6,6 @@ use crate::plan::layout::{List, LIGHT_WORDS, MATERIAL_WORDS, ROW};
 pub const OUT_WORDS: usize = 16;
 pub const OUT_BYTES: usize = 4 * OUT_WORDS;
 
-/// The most words that a call of `SCALAR` reads.
-pub const MOST_ARGS: usize = 12;
-
 struct Row {
     name: &'static str,
     args: usize,

@@ -1,18 +1,15 @@
 //! Compares our library with the source it is ported from.
 
-mod acos_error;
-mod answer;
 mod bench;
 mod call;
-mod cases;
-mod check;
+mod chosen;
 mod draw;
 mod gate;
 mod judge;
 mod plan;
 mod rng;
-mod store;
-mod sweep;
+mod scalar;
+mod source;
 mod tree;
 mod viewer;
 mod words;
@@ -35,7 +32,7 @@ fn main() -> ExitCode {
     let args: Vec<&str> = args.iter().map(String::as_str).collect();
     let result = match args[..] {
         ["gate"] => gate::run(),
-        ["sweep", which] => sweep::run(which),
+        ["sweep", which] => scalar::sweep::run(which),
         ["plan"] => plan::run(),
         ["plan", part] => plan::run_one(part),
         ["tree"] => tree::run(),
@@ -45,7 +42,7 @@ fn main() -> ExitCode {
             Ok(())
         }
         ["bench"] => bench::run(),
-        ["store", file] => store::run(file),
+        ["store", file] => scalar::store::run(file),
         _ => Err(format!("usage:\n{USAGE}")),
     };
     match result {

@@ -6,10 +6,10 @@ use super::layout::{List, CUTTERS, OBJECTS};
 use super::lent::Lent;
 use super::model::{Piece, Plan};
 use super::{sound, source};
-use crate::answer::vec3;
 use crate::bench::{alone, pair};
 use crate::call::Call;
 use crate::rng::Rng;
+use crate::source::vec3;
 use crate::viewer;
 
 /// Points of a loop.

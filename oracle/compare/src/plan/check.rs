@@ -4,9 +4,9 @@ use super::layout::{NODES_WORDS, NODE_WORDS, SECTIONS};
 use super::lent::{Lent, Table};
 use super::{exit, judge};
 use crate::call::Call;
-use crate::check::same;
 use crate::tree::table::START;
-use crate::{viewer, words};
+use crate::viewer;
+use crate::words::{self, same};
 use interflect::scene::Scene;
 use std::fmt::Write;
 

@@ -4,11 +4,12 @@
 use super::judge::{judge_light, EMISSION, UNIT};
 use super::layout::*;
 use super::model::{Light, Material, Piece, Plan, Prim};
-use crate::draw::{fit, prim_args, within};
+use crate::draw::{fit, within};
 use crate::judge::{
     self, judge_prim, Lowest, CAPSULE, COORD, DONE, KINDS, NORMAL, PLANE, POINT, RADIUS,
 };
 use crate::rng::Rng;
+use crate::scalar::draw::prim_args;
 
 /// How pieces lie: about a centre, each so far from it and so large.
 #[derive(Clone, Copy)]

@@ -7,7 +7,7 @@ use super::lent::{Lent, Table};
 use super::model::Plan;
 use super::{draw, sound};
 use crate::call::Call;
-use crate::cases::limits::NOT_FINITE;
+use crate::chosen::NOT_FINITE;
 use crate::judge::{BAD_WORD, DONE, NO_ROOM};
 use crate::rng::Rng;
 use crate::words;

@@ -2,17 +2,14 @@
 
 use super::layout::*;
 use super::lent::Lent;
-use crate::answer::vec3;
 use crate::call::{Call, OUT_BYTES};
 use crate::judge::{
     judge_floats, judge_prim, magnitude, not_negative, Lowest, Range, BAD_WORD, COORD, DONE,
-    NO_EXTENT, NO_ROOM, PLANE, POINT, RADIUS, WRONG_KIND,
+    NO_EXTENT, NO_MATERIAL, NO_ROOM, NO_TREE, PLANE, POINT, RADIUS, WRONG_KIND,
 };
+use crate::source::vec3;
 use crate::tree::judged;
-use crate::tree::rules::NO_TREE;
 use crate::words;
-
-pub const NO_MATERIAL: u32 = 3;
 
 pub const UNIT: Range = not_negative(1.0);
 pub const EMISSION: Range = not_negative(10_000.0);

@@ -6,11 +6,11 @@ use super::judge::BOUND;
 use super::lent::Lent;
 use super::model::{Piece, Plan};
 use super::{draw, source};
-use crate::answer::vec3;
 use crate::call::Call;
 use crate::draw::within;
 use crate::judge::DONE;
 use crate::rng::Rng;
+use crate::source::vec3;
 
 #[derive(Default)]
 struct Tally {

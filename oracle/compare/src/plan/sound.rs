@@ -3,8 +3,9 @@
 use super::layout::{List, LIGHT_WORDS};
 use super::model::{Light, Material, Piece, Plan, Prim};
 use crate::call::Call;
-use crate::cases::limits;
+use crate::chosen::shape;
 use crate::judge::PLANE;
+use crate::words;
 
 pub const MATERIAL: [f32; 5] = [0.75, 0.5, 0.25, 0.5, 1.0];
 
@@ -22,7 +23,7 @@ pub fn light() -> Light {
 }
 
 pub fn prim(kind: u32) -> Prim {
-    Prim::new(kind, &limits::sound(kind)[1..9])
+    Prim::new(kind, &words::bits(shape(kind)))
 }
 
 /// A piece of a kind, less cutters of these kinds.

@@ -2,11 +2,10 @@
 
 use super::lent::Lent;
 use super::model::{Piece, Plan};
-use crate::answer::{prim, vec3};
 use crate::call::{Call, OUT_WORDS};
-use crate::check::same;
+use crate::source::{prim, vec3};
 use crate::tree::judged;
-use crate::words;
+use crate::words::{self, same};
 use glam::Vec3;
 use interflect::bvh::Bvh;
 use interflect::scene::{Camera, DistHit, RenderCfg, Scene};

@@ -3,7 +3,6 @@
 
 use super::make::{self, Form, Slack};
 use super::source::{boxes, build};
-use crate::answer::vec3;
 use crate::bench::{alone, pair};
 use crate::call::Call;
 use crate::plan::bench::{ask, plan, points};
@@ -11,6 +10,7 @@ use crate::plan::layout::{NODES, OBJECTS};
 use crate::plan::model::Plan;
 use crate::plan::{source, Lent};
 use crate::rng::Rng;
+use crate::source::vec3;
 use crate::viewer;
 use interflect::bvh::Bvh;
 use interflect::scene::Scene;

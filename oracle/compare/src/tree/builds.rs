@@ -2,10 +2,8 @@
 //! source searches them, with the counts of the judge's search.
 
 use super::draw;
-use super::rules::{NO_TREE, TOO_DEEP};
-use crate::answer::vec3;
 use crate::call::Call;
-use crate::judge::DONE;
+use crate::judge::{DONE, NO_TREE, TOO_DEEP};
 use crate::plan::check::{check, check_in, expect};
 use crate::plan::draw::point;
 use crate::plan::lent::Lent;
@@ -13,6 +11,7 @@ use crate::plan::model::Plan;
 use crate::plan::queries::bound;
 use crate::plan::{sound, source};
 use crate::rng::Rng;
+use crate::source::vec3;
 use interflect::bvh::Bvh;
 use interflect::scene::Scene;
 use std::panic::{self, AssertUnwindSafe};

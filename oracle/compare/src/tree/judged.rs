@@ -2,12 +2,12 @@
 //! the one that stands, each with what the rules say of it. The plan is sound, the tables are of
 //! full size.
 
-use super::rules::{judge, Verdict, BAD_TREE};
+use super::rules::{judge, Verdict};
 use super::search::{search, Found};
 use super::shape::shape;
 use super::source;
 use super::table::Tables;
-use crate::judge::DONE;
+use crate::judge::{BAD_TREE, DONE};
 use crate::plan::layout::List;
 use crate::plan::lent::Lent;
 use crate::plan::model::Plan;

@@ -3,13 +3,13 @@
 
 use super::make::{self, Form, Lean, Slack};
 use super::rows::powers;
-use super::rules::{BAD_TREE, NO_TREE, TOO_DEEP};
 use super::source::{boxes, build};
 use super::table::{Bounds, Node, Tables, COUNT, RIGHT, START};
 use crate::call::{Call, OUT_BYTES};
-use crate::judge::{BAD_WORD, DONE, NO_EXTENT, NO_ROOM, WRONG_KIND};
+use crate::judge::{
+    BAD_TREE, BAD_WORD, DONE, NO_EXTENT, NO_MATERIAL, NO_ROOM, NO_TREE, TOO_DEEP, WRONG_KIND,
+};
 use crate::plan::check::expect;
-use crate::plan::judge::NO_MATERIAL;
 use crate::plan::layout::*;
 use crate::plan::lent::Lent;
 use crate::plan::model::{Piece, Plan, Prim};

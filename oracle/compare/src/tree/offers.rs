@@ -2,12 +2,12 @@
 //! with something changed. The same words then stand, and are asked by.
 
 use super::make::{self, Form, Lean, Slack};
-use super::rules::{judge, BAD_TREE, NO_TREE, TOO_DEEP};
+use super::rules::judge;
 use super::strike::{strike, Does};
 use super::table::{Bounds, Tables};
 use super::{draw, source};
 use crate::call::Call;
-use crate::judge::DONE;
+use crate::judge::{BAD_TREE, DONE, NO_TREE, TOO_DEEP};
 use crate::plan::check::{check, expect};
 use crate::plan::draw::point;
 use crate::plan::lent::Lent;

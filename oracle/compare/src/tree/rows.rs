@@ -1,10 +1,9 @@
 //! Document 01's rows R1, R2 and R3, through the calls: objects enter, then the tree is built.
 
-use super::rules::TOO_DEEP;
 use super::source::tables;
 use super::table::{Bounds, Node, Tables};
 use crate::call::Call;
-use crate::judge::DONE;
+use crate::judge::{DONE, TOO_DEEP};
 use crate::plan::check::expect;
 use crate::plan::layout::{NODES_WORDS, ORDER_WORDS};
 use crate::plan::lent::Lent;

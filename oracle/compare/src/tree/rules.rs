@@ -2,12 +2,8 @@
 
 use super::shape::{shape, Placed};
 use super::table::{Bounds, Tables};
-use crate::judge::DONE;
+use crate::judge::{BAD_TREE, DONE, TOO_DEEP};
 use glam::Vec3;
-
-pub const BAD_TREE: u32 = 6;
-pub const TOO_DEEP: u32 = 7;
-pub const NO_TREE: u32 = 8;
 
 /// No node is deeper.
 pub const DEEPEST: usize = 63;

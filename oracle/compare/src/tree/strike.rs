@@ -2,7 +2,7 @@
 
 use super::shape::{shape, Placed};
 use super::table::{Bounds, Tables, COUNT, HI, LO, RIGHT, START};
-use crate::cases::limits::NOT_FINITE;
+use crate::chosen::NOT_FINITE;
 use crate::plan::layout::{NODES_WORDS, NODE_WORDS, ORDER_WORDS};
 use crate::rng::Rng;
 

@@ -1,7 +1,7 @@
 //! A tree as the words of its two tables, and its nodes one by one.
 
-use crate::answer::vec3;
 use crate::plan::layout::{NODES, NODES_WORDS, NODE_WORDS, ORDER_WORDS};
+use crate::source::vec3;
 use crate::words;
 use glam::Vec3;
 

@@ -3,18 +3,18 @@
 
 use super::make::{self, Form, Lean, Slack};
 use super::rows::powers;
-use super::rules::{judge, BAD_TREE, DEEPEST, TOO_DEEP};
+use super::rules::{judge, DEEPEST};
 use super::search::search;
 use super::shape::shape;
 use super::strike::{strike, Does};
 use super::table::Tables;
 use super::{draw, source};
-use crate::answer::{prim, vec3};
-use crate::judge::DONE;
+use crate::judge::{BAD_TREE, DONE, TOO_DEEP};
 use crate::plan::draw::point;
 use crate::plan::queries::bound;
 use crate::plan::source::object;
 use crate::rng::Rng;
+use crate::source::{prim, vec3};
 use crate::words;
 use interflect::bvh::Bvh;
 use interflect::scene::DistHit;

@@ -9,7 +9,7 @@ use super::lent::Lent;
 use super::model::{cutters_of, used, Plan};
 use super::{draw, sound};
 use crate::call::Call;
-use crate::cases::limits::NOT_FINITE;
+use crate::chosen::NOT_FINITE;
 use crate::rng::Rng;
 
 /// Damages of one plan before the next is drawn.

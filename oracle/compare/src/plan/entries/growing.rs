@@ -1,10 +1,9 @@
 //! A plan that grows call by call, beside a model that only pushes on lists.
 
 use crate::call::Call;
-use crate::judge::{DONE, NO_ROOM};
+use crate::judge::{DONE, NO_MATERIAL, NO_ROOM};
 use crate::plan::check::expect;
 use crate::plan::draw::{self, Style};
-use crate::plan::judge::NO_MATERIAL;
 use crate::plan::layout::*;
 use crate::plan::lent::Lent;
 use crate::plan::model::{Light, Material, Piece, Plan};

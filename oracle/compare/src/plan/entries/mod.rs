@@ -3,14 +3,13 @@
 mod growing;
 
 use super::check::{check, expect};
-use super::judge::NO_MATERIAL;
 use super::layout::*;
 use super::lent::Lent;
 use super::model::Plan;
 use super::sound;
 use crate::call::{Call, OUT_BYTES};
-use crate::cases::limits::NOT_FINITE;
-use crate::judge::{BAD_WORD, DONE, NO_ROOM, PLANE};
+use crate::chosen::NOT_FINITE;
+use crate::judge::{BAD_WORD, DONE, NO_MATERIAL, NO_ROOM, PLANE};
 use crate::rng::Rng;
 use growing::{Growing, Thing};
 

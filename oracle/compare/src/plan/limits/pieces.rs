@@ -1,9 +1,8 @@
 //! The words of pieces that are in the plan.
 
 use super::{kinds, Cases, ABSENT, TOO_MANY};
-use crate::cases::limits::{about, UNKNOWN_KINDS};
-use crate::judge::{self, BAD_WORD, DONE, KINDS, NO_ROOM, RADIUS};
-use crate::plan::judge::NO_MATERIAL;
+use crate::chosen::{about, UNKNOWN_KINDS};
+use crate::judge::{self, BAD_WORD, DONE, KINDS, NO_MATERIAL, NO_ROOM, RADIUS};
 use crate::plan::layout::*;
 use crate::plan::sound;
 

@@ -2,9 +2,8 @@
 
 use super::Cases;
 use crate::call::Call;
-use crate::cases::limits::NOT_FINITE;
-use crate::judge::{BAD_WORD, DONE, NO_ROOM, PLANE};
-use crate::plan::judge::NO_MATERIAL;
+use crate::chosen::NOT_FINITE;
+use crate::judge::{BAD_WORD, DONE, NO_MATERIAL, NO_ROOM, PLANE};
 use crate::plan::layout::*;
 use crate::plan::model::{cutters_of, used, Plan};
 use crate::plan::sound;

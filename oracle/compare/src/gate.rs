@@ -1,27 +1,16 @@
 //! The comparisons that run with every change: seconds, not minutes.
 
-mod acos;
-mod chosen;
-mod refusals;
-mod root;
-mod shapes;
-
-use crate::{plan, tree};
+use crate::{plan, scalar, tree};
 use std::time::Instant;
 
 /// A comparison: a line that says what was compared, or the first difference.
 pub type Part = (&'static str, fn() -> Result<String, String>);
 
-const PARTS: [Part; 5] = [
-    ("root", root::run),
-    ("arc cosine", acos::run),
-    ("chosen cases", chosen::run),
-    ("shapes", shapes::run),
-    ("refusals", refusals::run),
-];
-
 pub fn run() -> Result<(), String> {
-    run_parts("gate", &[&PARTS[..], &plan::GATE, &tree::GATE].concat())
+    run_parts(
+        "gate",
+        &[&scalar::GATE[..], &plan::GATE, &tree::GATE].concat(),
+    )
 }
 
 pub fn run_parts(whole: &str, parts: &[Part]) -> Result<(), String> {

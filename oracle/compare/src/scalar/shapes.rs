@@ -1,10 +1,11 @@
 //! Distance and bounds of random shapes, equal as floats to the source's.
 
-use crate::call::{Call, MOST_ARGS, OUT_BYTES};
-use crate::check::check;
+use super::check::check;
+use super::{draw, MOST_ARGS};
+use crate::call::{Call, OUT_BYTES};
 use crate::judge::{DONE, KINDS};
 use crate::rng::Rng;
-use crate::{draw, words};
+use crate::words;
 
 const CASES: usize = 9_000_000;
 

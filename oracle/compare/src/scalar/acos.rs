@@ -1,9 +1,10 @@
-//! Arc cosine on a sample of all patterns from -1 to 1: bit for bit document 01's formula, and
+//! Arc cosine on patterns from -1 to 1: bit for bit document 01's formula, and
 //! close to the double-precision one.
 
-use crate::acos_error::AcosError;
+use super::acos_error::AcosError;
+use super::check::check;
+use super::sweep::halves;
 use crate::call::{Call, OUT_BYTES};
-use crate::check::check;
 use crate::words;
 
 /// A prime, so that the low bits of the patterns go through all their values.
@@ -12,7 +13,8 @@ const STRIDE: usize = 263;
 const ONE: u32 = 1f32.to_bits();
 const MINUS: u32 = 1 << 31;
 
-pub fn run() -> Result<String, String> {
+/// A sample of the patterns, and the ends of their ranges.
+pub fn sample() -> Result<String, String> {
     let mut count = 0u32;
     let mut worst = AcosError::default();
     let mut out = [0; OUT_BYTES];
@@ -41,4 +43,25 @@ pub fn run() -> Result<String, String> {
     }
     worst.verdict()?;
     Ok(format!("{count} patterns, each the formula's; {worst}"))
+}
+
+/// Every pattern, of both signs.
+pub fn sweep() -> Result<String, String> {
+    let count = 2 * (ONE + 1);
+    let [mut worst, other] = halves(count, |part| {
+        let mut out = [0; OUT_BYTES];
+        let mut worst = AcosError::default();
+        for i in part {
+            // Halved, with the last bit for the sign.
+            let bits = i.rotate_right(1);
+            check(Call::Acos, &bits.to_le_bytes(), &mut out)?;
+            worst.take(bits, words::word(&out, 0));
+        }
+        Ok(worst)
+    })?;
+    worst.join(other);
+    worst.verdict()?;
+    Ok(format!(
+        "arc cosine: {count} patterns, each the formula's; {worst}"
+    ))
 }

@@ -1,8 +1,6 @@
 //! The long runs over every pattern.
 
-mod acos;
-mod root;
-
+use super::{acos, root};
 use std::ops::Range;
 use std::thread;
 use std::time::Instant;
@@ -10,8 +8,8 @@ use std::time::Instant;
 pub fn run(which: &str) -> Result<(), String> {
     let start = Instant::now();
     let line = match which {
-        "root" => root::run()?,
-        "acos" => acos::run()?,
+        "root" => root::sweep()?,
+        "acos" => acos::sweep()?,
         _ => return Err(format!("there is no sweep `{which}`")),
     };
     let seconds = start.elapsed().as_secs_f32();
@@ -20,7 +18,7 @@ pub fn run(which: &str) -> Result<(), String> {
 }
 
 /// Runs the two halves of 0 to `count - 1` at once, each in a thread of its own.
-fn halves<T: Send>(
+pub fn halves<T: Send>(
     count: u32,
     part: impl Fn(Range<u32>) -> Result<T, String> + Sync,
 ) -> Result<[T; 2], String> {

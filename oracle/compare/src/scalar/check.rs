@@ -1,8 +1,11 @@
 //! One call compared whole: the number sent and each byte of `out`.
 
-use crate::answer::answer;
+use super::answer::answer;
+use super::{judge, words_of};
 use crate::call::{Call, OUT_BYTES, OUT_WORDS};
-use crate::{judge, viewer, words};
+use crate::judge::DONE;
+use crate::viewer;
+use crate::words::{self, same};
 
 /// What `out` holds before each call, so that a byte left as it was can be told.
 const BEFORE: u8 = 0xa5;
@@ -11,8 +14,8 @@ const BEFORE: u8 = 0xa5;
 pub fn check(call: Call, args: &[u8], out: &mut [u8]) -> Result<u32, String> {
     let number = judge::number(call, args, out.len());
     let mut want = [0; OUT_WORDS];
-    if number == judge::DONE {
-        want = answer(call, &words::args(args));
+    if number == DONE {
+        want = answer(call, &words_of(args));
     }
     out.fill(BEFORE);
     let sent = viewer::send(call, args, out);
@@ -62,11 +65,6 @@ fn compare_words(call: Call, out: &[u8], want: &[u32; OUT_WORDS]) -> Result<(), 
 /// Root and arc cosine are settled bit for bit; elsewhere zeros of both signs are equal.
 fn by_bits(call: Call) -> bool {
     matches!(call, Call::Root | Call::Acos)
-}
-
-pub fn same(have: u32, want: u32, by_bits: bool) -> bool {
-    let (h, w) = (f32::from_bits(have), f32::from_bits(want));
-    have == want || (!by_bits && (h == w || (h.is_nan() && w.is_nan())))
 }
 
 fn untouched(bytes: &[u8], first: usize) -> Result<(), String> {

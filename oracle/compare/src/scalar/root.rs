@@ -1,7 +1,8 @@
-//! Root on a sample of all patterns from 0 to f32::MAX, bit for bit the hardware's.
+//! Root on patterns from 0 to f32::MAX, bit for bit the hardware's.
 
+use super::check::check;
+use super::sweep::halves;
 use crate::call::{Call, OUT_BYTES};
-use crate::check::check;
 use crate::rng::Rng;
 
 /// A prime, so that the low bits of the patterns go through all their values.
@@ -12,7 +13,8 @@ const NEAR_TIES: usize = 200_000;
 
 const MAX: u32 = f32::MAX.to_bits();
 
-pub fn run() -> Result<String, String> {
+/// A sample of the patterns, and those where a root may go wrong.
+pub fn sample() -> Result<String, String> {
     let mut count = 0u32;
     let mut out = [0; OUT_BYTES];
     let mut root = |bits: u32| {
@@ -57,4 +59,17 @@ pub fn run() -> Result<String, String> {
         }
     }
     Ok(format!("{count} patterns, each the hardware's"))
+}
+
+/// Every pattern.
+pub fn sweep() -> Result<String, String> {
+    let count = MAX + 1;
+    halves(count, |part| {
+        let mut out = [0; OUT_BYTES];
+        for bits in part {
+            check(Call::Root, &bits.to_le_bytes(), &mut out)?;
+        }
+        Ok(())
+    })?;
+    Ok(format!("root: {count} patterns, each the hardware's"))
 }

@@ -1,12 +1,16 @@
 //! Refusals: tables of every length, several reasons at once, and a random mix of all of it.
 
-use crate::call::{Call, MOST_ARGS, OUT_BYTES};
-use crate::cases::limits::{number_of_sound, sound, NOT_FINITE, UNKNOWN_KINDS};
-use crate::cases::prim_args;
-use crate::check::{check, expect};
-use crate::judge::{self, BAD_WORD, CAPSULE, DONE, NO_EXTENT, NO_ROOM, PLANE, WRONG_KIND};
+use super::cases::limits::{number_of_sound, sound};
+use super::cases::prim_args;
+use super::check::{check, expect};
+use super::judge::ACOS;
+use super::{draw, MOST_ARGS};
+use crate::call::{Call, OUT_BYTES};
+use crate::chosen::{NOT_FINITE, UNKNOWN_KINDS};
+use crate::draw::within;
+use crate::judge::*;
 use crate::rng::Rng;
-use crate::{draw, words};
+use crate::words;
 
 const MIXED: usize = 400_000;
 
@@ -34,7 +38,7 @@ fn by_content(call: Call) -> Vec<(Vec<u32>, u32)> {
             (vec![(-2f32).to_bits()], BAD_WORD),
         ],
         Call::PrimDist | Call::PrimBounds => {
-            let mut kinds: Vec<(Vec<u32>, u32)> = (0..judge::KINDS)
+            let mut kinds: Vec<(Vec<u32>, u32)> = (0..KINDS)
                 .map(|kind| (sound(kind), number_of_sound(call, kind)))
                 .collect();
             let mut unknown = sound(0);
@@ -132,7 +136,7 @@ fn mixed() -> Result<[usize; 10], String> {
 fn faulty(rng: &mut Rng, call: Call) -> [u32; MOST_ARGS] {
     let mut words = draw::prim_args(rng);
     if matches!(call, Call::Root | Call::Acos) {
-        words[0] = draw::within(rng, judge::ACOS).to_bits();
+        words[0] = within(rng, ACOS).to_bits();
     }
     while rng.one_in(3) {
         let place = rng.below(MOST_ARGS);
