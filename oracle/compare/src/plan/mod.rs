@@ -16,7 +16,8 @@ pub mod lent;
 mod limits;
 pub mod model;
 mod pairs;
-pub mod queries;
+pub mod points;
+mod queries;
 pub mod sound;
 pub mod source;
 

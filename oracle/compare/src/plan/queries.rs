@@ -1,16 +1,11 @@
 //! Queries by the plain list on random plans: distance and material as the source's, no node
 //! popped, every object evaluated.
 
-use super::check::check_in;
-use super::judge::BOUND;
-use super::lent::Lent;
+use super::draw;
 use super::model::{Piece, Plan};
-use super::{draw, source};
-use crate::call::Call;
-use crate::draw::within;
-use crate::judge::DONE;
+use super::points::{Asked, Asking};
 use crate::rng::Rng;
-use crate::source::vec3;
+use interflect::sdf::Object;
 
 #[derive(Default)]
 struct Tally {
@@ -72,47 +67,18 @@ fn of_plan(
     points: usize,
     tally: &mut Tally,
 ) -> Result<(), String> {
-    let scene = source::scene(plan);
-    let mut lent = Lent::new(plan, shift);
-    lent.nodes.fill(|i| i as u8);
-    lent.order.fill(|i| !i as u8);
-    for _ in 0..points {
-        let point = draw::point(rng, plan);
-        lent.args(&point);
-        let sent = check_in(&scene, Call::DistMat, &mut lent)?;
-        assert_eq!(sent, DONE, "plans and points are drawn sound");
-
-        let near = source::query(&scene, vec3(&point), f32::MAX, 0);
-        let bound = bound(rng, near.d);
-        let word = rng.word();
-        lent.args(&[&point[..], &[bound.to_bits(), word]].concat());
-        let sent = check_in(&scene, Call::Query, &mut lent)?;
-        assert_eq!(sent, DONE, "plans and points are drawn sound");
-
-        if near.d < bound {
-            let at = |o: &&interflect::sdf::Object| o.dist(vec3(&point)) == near.d;
+    let mut asking = Asking::new(plan, shift);
+    asking.junk();
+    asking.from_points(rng, points, &[0], |scene, asked| {
+        let Asked { point, near, .. } = asked;
+        if near.d < asked.bound {
+            let at = |o: &&Object| o.dist(point) == near.d;
             let nearest = scene.objects.iter().find(at).unwrap();
             tally.nearest += 1;
             tally.ties += usize::from(scene.objects.iter().filter(at).count() > 1);
-            tally.cut += usize::from(nearest.prim.dist(vec3(&point)) != near.d);
+            tally.cut += usize::from(nearest.prim.dist(point) != near.d);
         } else {
             tally.bounds += 1;
         }
-    }
-    Ok(())
-}
-
-/// A bound: none, anything, below everything, or about the distance itself.
-pub fn bound(rng: &mut Rng, distance: f32) -> f32 {
-    match rng.below(12) {
-        0..=3 => f32::MAX,
-        4 => within(rng, BOUND),
-        5 => -f32::MAX,
-        6 => rng.pick(&[0.0, -0.0, -1.0, 1.0]),
-        7 => distance,
-        8 => distance.next_down().max(-f32::MAX),
-        9 => distance.next_up().min(f32::MAX),
-        10 => distance + rng.unit() * 10.0,
-        _ => distance - rng.unit() * 10.0,
-    }
+    })
 }

@@ -1,19 +1,16 @@
 //! Trees of random plans: built as the source builds them, word for word, and searched as the
 //! source searches them, with the counts of the judge's search.
 
-use super::draw;
+use super::{draw, source};
 use crate::call::Call;
 use crate::judge::{DONE, NO_TREE, TOO_DEEP};
-use crate::plan::check::{check, check_in, expect};
-use crate::plan::draw::point;
-use crate::plan::lent::Lent;
+use crate::plan::check::{check, expect};
 use crate::plan::model::Plan;
-use crate::plan::queries::bound;
-use crate::plan::{sound, source};
+use crate::plan::points::Asking;
+use crate::plan::{sound, Lent};
 use crate::rng::Rng;
-use crate::source::vec3;
 use interflect::bvh::Bvh;
-use interflect::scene::Scene;
+use interflect::scene::{DistHit, Scene};
 use std::panic::{self, AssertUnwindSafe};
 
 #[derive(Default)]
@@ -70,31 +67,35 @@ fn of_plan(
     points: usize,
     tally: &mut Tally,
 ) -> Result<(), String> {
-    let mut scene = source::scene(plan);
-    scene.bvh = Bvh::build(&scene.objects);
-    let mut lent = Lent::new(plan, shift);
+    let mut asking = Asking::new(plan, shift);
+    asking.scene.bvh = Bvh::build(&asking.scene.objects);
     if rng.one_in(2) {
         // What stood there before is of no importance.
-        lent.nodes.fill(|i| i as u8);
-        lent.order.fill(|i| !i as u8);
+        asking.junk();
     }
-    if check(Call::Build, &mut lent)? == TOO_DEEP {
+    let Asking { scene, lent, .. } = &mut asking;
+    if check(Call::Build, lent)? == TOO_DEEP {
         tally.deep += 1;
-        tally.overrun += usize::from(overruns(&scene));
-        return no_tree(&mut lent);
+        tally.overrun += usize::from(overruns(scene));
+        return no_tree(lent);
     }
     tally.built += 1;
     tally.most_nodes = tally.most_nodes.max(lent.out.word(0));
-    tally.zeros += usize::from(differs(&scene.bvh, &lent));
-    for _ in 0..points {
-        ask(rng, plan, &mut scene, &mut lent, tally)?;
-    }
-    Ok(())
+    tally.zeros += usize::from(differs(&scene.bvh, lent));
+    asking.from_points(rng, points, &[0, 1], |_, asked| {
+        let [list, tree] = asked.answers[..] else {
+            unreachable!()
+        };
+        tally.asked += 1;
+        tally.other_distance += usize::from(list[0] != tree[0]);
+        tally.other_material += usize::from(list[0] == tree[0] && list[1] != tree[1]);
+        tally.pruned += usize::from(tree[3] < list[3]);
+    })
 }
 
 /// Whether the words of the tree that we built are not all those of the source.
 fn differs(bvh: &Bvh, lent: &Lent) -> bool {
-    let tables = super::source::tables(bvh);
+    let tables = source::tables(bvh);
     let mut words = tables.nodes.iter().enumerate();
     words.any(|(i, &word)| lent.nodes.word(i) != word)
 }
@@ -115,9 +116,9 @@ fn no_tree(lent: &mut Lent) -> Result<(), String> {
 fn overruns(scene: &Scene) -> bool {
     let said = panic::take_hook();
     panic::set_hook(Box::new(|_| {}));
-    let boxes = super::source::boxes(&scene.objects);
+    let boxes = source::boxes(&scene.objects);
     let overruns = boxes.iter().any(|own| {
-        let mut best = interflect::scene::DistHit {
+        let mut best = DistHit {
             d: f32::MAX,
             mat: 0,
         };
@@ -126,38 +127,4 @@ fn overruns(scene: &Scene) -> bool {
     });
     panic::set_hook(said);
     overruns
-}
-
-/// One point by both calls, by the list and by the tree.
-fn ask(
-    rng: &mut Rng,
-    plan: &Plan,
-    scene: &mut Scene,
-    lent: &mut Lent,
-    tally: &mut Tally,
-) -> Result<(), String> {
-    let point = point(rng, plan);
-    let mut answers = Vec::new();
-    scene.use_bvh = false;
-    let near = source::query(scene, vec3(&point), f32::MAX, 0);
-    let bound = [bound(rng, near.d).to_bits(), rng.word()];
-    for tree in [0, 1] {
-        scene.use_bvh = tree == 1;
-        lent.tree = tree;
-        lent.args(&point);
-        let sent = check_in(scene, Call::DistMat, lent)?;
-        assert_eq!(sent, DONE, "plans and points are drawn sound");
-        lent.args(&[&point[..], &bound].concat());
-        let sent = check_in(scene, Call::Query, lent)?;
-        assert_eq!(sent, DONE, "plans and points are drawn sound");
-        answers.push([0, 1, 3].map(|i| lent.out.word(i)));
-    }
-    let [list, tree] = answers[..] else {
-        unreachable!()
-    };
-    tally.asked += 1;
-    tally.other_distance += usize::from(list[0] != tree[0]);
-    tally.other_material += usize::from(list[0] == tree[0] && list[1] != tree[1]);
-    tally.pruned += usize::from(tree[2] < list[2]);
-    Ok(())
 }

@@ -11,7 +11,7 @@ use super::table::Tables;
 use super::{draw, source};
 use crate::judge::{BAD_TREE, DONE, TOO_DEEP};
 use crate::plan::draw::point;
-use crate::plan::queries::bound;
+use crate::plan::points::bound;
 use crate::plan::source::object;
 use crate::rng::Rng;
 use crate::source::{prim, vec3};
