@@ -80,6 +80,11 @@ impl Call {
             .copied()
     }
 
+    /// The same, each with every word `tree` that it takes.
+    pub fn with_trees() -> impl Iterator<Item = (Call, u32)> {
+        Call::on_plans().flat_map(|call| call.trees().iter().map(move |&tree| (call, tree)))
+    }
+
     pub fn name(self) -> &'static str {
         self.row().name
     }

@@ -13,6 +13,13 @@ pub fn run() -> Result<(), String> {
     )
 }
 
+/// One of the parts.
+pub fn run_one(whole: &str, parts: &[Part], name: &str) -> Result<(), String> {
+    let part = parts.iter().find(|part| part.0 == name);
+    let part = part.ok_or_else(|| format!("there is no part `{name}`"))?;
+    run_parts(whole, &[*part])
+}
+
 pub fn run_parts(whole: &str, parts: &[Part]) -> Result<(), String> {
     let start = Instant::now();
     for (name, part) in parts {

@@ -7,6 +7,7 @@ mod draw;
 mod gate;
 mod judge;
 mod plan;
+mod progress;
 mod rng;
 mod scalar;
 mod source;
@@ -33,10 +34,10 @@ fn main() -> ExitCode {
     let result = match args[..] {
         ["gate"] => gate::run(),
         ["sweep", which] => scalar::sweep::run(which),
-        ["plan"] => plan::run(),
-        ["plan", part] => plan::run_one(part),
-        ["tree"] => tree::run(),
-        ["tree", part] => tree::run_one(part),
+        ["plan"] => gate::run_parts("plan", &plan::LONG),
+        ["plan", part] => gate::run_one("plan", &plan::LONG, part),
+        ["tree"] => gate::run_parts("tree", &tree::LONG),
+        ["tree", part] => gate::run_one("tree", &tree::LONG, part),
         ["stack"] => {
             tree::stack::tell();
             Ok(())

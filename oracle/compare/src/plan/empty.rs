@@ -19,12 +19,10 @@ pub fn run() -> Result<String, String> {
     let mut count = 0;
     for turn in 0..TURNS {
         for junk_in_the_plan in [false, true] {
-            for call in Call::on_plans() {
-                for &tree in call.trees() {
-                    let mut lent = lend(&mut rng, turn, junk_in_the_plan);
-                    lent.tree = tree;
-                    count += of_call(&mut rng, call, &mut lent)?;
-                }
+            for (call, tree) in Call::with_trees() {
+                let mut lent = lend(&mut rng, turn, junk_in_the_plan);
+                lent.tree = tree;
+                count += of_call(&mut rng, call, &mut lent)?;
             }
         }
     }

@@ -15,13 +15,11 @@ const PAST: usize = 72;
 
 pub fn run() -> Result<String, String> {
     let mut count = 0;
-    for call in Call::on_plans() {
-        for &tree in call.trees() {
-            for broken in Broken::ALL {
-                let case = Case { call, tree, broken };
-                count += case.whole_tables()?;
-                count += case.args_and_out()?;
-            }
+    for (call, tree) in Call::with_trees() {
+        for broken in Broken::ALL {
+            let case = Case { call, tree, broken };
+            count += case.whole_tables()?;
+            count += case.args_and_out()?;
         }
     }
     Ok(format!("{count} cases"))

@@ -23,7 +23,7 @@ pub mod source;
 
 pub use lent::Lent;
 
-use crate::gate::{run_parts, Part};
+use crate::gate::Part;
 
 /// What `gate` runs of it.
 pub const GATE: [Part; 7] = [
@@ -37,7 +37,7 @@ pub const GATE: [Part; 7] = [
 ];
 
 /// The same at length.
-const LONG: [Part; 8] = [
+pub const LONG: [Part; 8] = [
     ("entries", || entries::run(300)),
     ("limits", limits::run),
     ("refusals", || pairs::run(3)),
@@ -47,14 +47,3 @@ const LONG: [Part; 8] = [
     ("words", damage::every_word),
     ("damage", || damage::run(300_000)),
 ];
-
-pub fn run() -> Result<(), String> {
-    run_parts("plan", &LONG)
-}
-
-/// One part of the long run.
-pub fn run_one(name: &str) -> Result<(), String> {
-    let part = LONG.iter().find(|part| part.0 == name);
-    let part = part.ok_or_else(|| format!("there is no part `{name}`"))?;
-    run_parts("plan", &[*part])
-}

@@ -4,6 +4,7 @@
 use super::draw;
 use super::model::{Piece, Plan};
 use super::points::{Asked, Asking};
+use crate::progress::through;
 use crate::rng::Rng;
 use interflect::sdf::Object;
 
@@ -18,7 +19,7 @@ struct Tally {
 pub fn run(plans: usize, points: usize) -> Result<String, String> {
     let mut rng = Rng::new(22);
     let mut tally = Tally::default();
-    for i in 0..plans {
+    for i in through("queries", 0..plans, "plans") {
         let objects = draw::objects(&mut rng);
         let mut plan = draw::plan(&mut rng, objects);
         if rng.one_in(4) {

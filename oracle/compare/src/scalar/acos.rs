@@ -48,16 +48,13 @@ pub fn sample() -> Result<String, String> {
 /// Every pattern, of both signs.
 pub fn sweep() -> Result<String, String> {
     let count = 2 * (ONE + 1);
-    let [mut worst, other] = halves(count, |part| {
+    let [mut worst, other] = halves("arc cosine", count, |worst: &mut AcosError, i| {
+        // Halved, with the last bit for the sign.
+        let bits = i.rotate_right(1);
         let mut out = [0; OUT_BYTES];
-        let mut worst = AcosError::default();
-        for i in part {
-            // Halved, with the last bit for the sign.
-            let bits = i.rotate_right(1);
-            check(Call::Acos, &bits.to_le_bytes(), &mut out)?;
-            worst.take(bits, words::word(&out, 0));
-        }
-        Ok(worst)
+        check(Call::Acos, &bits.to_le_bytes(), &mut out)?;
+        worst.take(bits, words::word(&out, 0));
+        Ok(())
     })?;
     worst.join(other);
     worst.verdict()?;

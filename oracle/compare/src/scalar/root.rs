@@ -64,12 +64,8 @@ pub fn sample() -> Result<String, String> {
 /// Every pattern.
 pub fn sweep() -> Result<String, String> {
     let count = MAX + 1;
-    halves(count, |part| {
-        let mut out = [0; OUT_BYTES];
-        for bits in part {
-            check(Call::Root, &bits.to_le_bytes(), &mut out)?;
-        }
-        Ok(())
+    halves("root", count, |_: &mut (), bits| {
+        check(Call::Root, &bits.to_le_bytes(), &mut [0; OUT_BYTES]).map(|_| ())
     })?;
     Ok(format!("root: {count} patterns, each the hardware's"))
 }

@@ -1,6 +1,7 @@
 //! The long runs over every pattern.
 
 use super::{acos, root};
+use crate::progress::Progress;
 use std::ops::Range;
 use std::thread;
 use std::time::Instant;
@@ -17,15 +18,31 @@ pub fn run(which: &str) -> Result<(), String> {
     Ok(())
 }
 
-/// Runs the two halves of 0 to `count - 1` at once, each in a thread of its own.
-pub fn halves<T: Send>(
+/// Patterns between two looks at the clock.
+const CHUNK: u32 = 1 << 20;
+
+/// Gives each of 0 to `count - 1` to `each`, the two halves at once, in a thread of its own each and
+/// with a state of its own.
+pub fn halves<T: Default + Send>(
+    run: &'static str,
     count: u32,
-    part: impl Fn(Range<u32>) -> Result<T, String> + Sync,
+    each: impl Fn(&mut T, u32) -> Result<(), String> + Sync,
 ) -> Result<[T; 2], String> {
-    let middle = count / 2;
+    let progress = Progress::new(run, count as usize, "patterns");
+    let half = |Range { start, end }: Range<u32>| -> Result<T, String> {
+        let mut state = T::default();
+        for first in (start..end).step_by(CHUNK as usize) {
+            let chunk = first..end.min(first + CHUNK);
+            progress.add(chunk.len());
+            for i in chunk {
+                each(&mut state, i)?;
+            }
+        }
+        Ok(state)
+    };
     thread::scope(|scope| {
-        let first = scope.spawn(|| part(0..middle));
-        let second = part(middle..count);
+        let first = scope.spawn(|| half(0..count / 2));
+        let second = half(count / 2..count);
         Ok([first.join().unwrap()?, second?])
     })
 }

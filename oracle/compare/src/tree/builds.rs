@@ -8,6 +8,7 @@ use crate::plan::check::{check, expect};
 use crate::plan::model::Plan;
 use crate::plan::points::Asking;
 use crate::plan::{sound, Lent};
+use crate::progress::through;
 use crate::rng::Rng;
 use interflect::bvh::Bvh;
 use interflect::scene::{DistHit, Scene};
@@ -32,7 +33,7 @@ struct Tally {
 pub fn run(plans: usize, points: usize) -> Result<String, String> {
     let mut rng = Rng::new(41);
     let mut tally = Tally::default();
-    for i in 0..plans {
+    for i in through("builds", 0..plans, "plans") {
         let plan = draw::plan(&mut rng);
         of_plan(&mut rng, &plan, i, points, &mut tally)?;
     }

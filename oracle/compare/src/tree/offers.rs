@@ -14,6 +14,7 @@ use crate::plan::lent::Lent;
 use crate::plan::model::Plan;
 use crate::plan::sound;
 use crate::plan::source::object;
+use crate::progress::through;
 use crate::rng::Rng;
 use interflect::sdf::Object;
 
@@ -33,7 +34,7 @@ struct Tally {
 pub fn run(offers: usize) -> Result<String, String> {
     let mut rng = Rng::new(42);
     let mut tally = Tally::default();
-    for i in 0..offers / OF_A_PLAN {
+    for i in through("offers", 0..offers / OF_A_PLAN, "plans") {
         let plan = draw::plan(&mut rng);
         let mut case = Case::new(plan, i);
         for _ in 0..OF_A_PLAN {

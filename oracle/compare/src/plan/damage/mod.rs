@@ -10,6 +10,7 @@ use super::model::{cutters_of, used, Plan};
 use super::{draw, sound};
 use crate::call::Call;
 use crate::chosen::NOT_FINITE;
+use crate::progress::through;
 use crate::rng::Rng;
 
 /// Damages of one plan before the next is drawn.
@@ -39,7 +40,7 @@ impl Sent {
 pub fn run(damages: usize) -> Result<String, String> {
     let mut rng = Rng::new(23);
     let mut sent = Sent::default();
-    for i in 0..damages / OF_A_PLAN {
+    for i in through("damage", 0..damages / OF_A_PLAN, "plans") {
         let objects = draw::objects(&mut rng);
         let plan = draw::plan(&mut rng, objects);
         // The tree is right for any objects, as long as they are as many.
@@ -87,7 +88,7 @@ pub fn every_word() -> Result<String, String> {
     let mut good = Lent::new(&plan, 0);
     good.any_tree();
     let mut lent = Lent::new(&plan, 0);
-    for i in 0..PLAN_WORDS {
+    for i in through("words", 0..PLAN_WORDS, "words") {
         for call in Call::on_plans() {
             lent.copy(&good);
             lent.tree = (i % 2) as u32;

@@ -10,6 +10,7 @@ use super::sound;
 use crate::call::{Call, OUT_BYTES};
 use crate::chosen::NOT_FINITE;
 use crate::judge::{BAD_WORD, DONE, NO_MATERIAL, NO_ROOM, PLANE};
+use crate::progress::through;
 use crate::rng::Rng;
 use growing::{Growing, Thing};
 
@@ -22,7 +23,7 @@ pub fn run(sequences: usize) -> Result<String, String> {
         grown.push(shared_cutters(planes_every, cutters)?);
     }
     nine_cutters()?;
-    for i in 0..sequences {
+    for i in through("entries", 0..sequences, "sequences") {
         grown.push(random(100 + i as u64)?);
     }
     let sent: [usize; 10] = std::array::from_fn(|i| grown.iter().map(|g| g.sent[i]).sum());
