@@ -74,10 +74,7 @@ calls! {
 impl Call {
     /// The calls that are lent a plan.
     pub fn on_plans() -> impl Iterator<Item = Call> {
-        [Call::ENTRIES, Call::TREES, Call::ASKS]
-            .into_iter()
-            .flatten()
-            .copied()
+        [Call::ENTRIES, Call::TREES, Call::ASKS].into_iter().flatten().copied()
     }
 
     /// The same, each with every word `tree` that it takes.

@@ -14,17 +14,7 @@ pub const NOT_FINITE: [u32; 7] = [
 ];
 
 /// No kinds, though some would be if only a part of the word were looked at.
-pub const UNKNOWN_KINDS: [u32; 9] = [
-    7,
-    8,
-    0xff,
-    0x100,
-    0x103,
-    0x1_0000,
-    0x0300_0000,
-    0x8000_0000,
-    u32::MAX,
-];
+pub const UNKNOWN_KINDS: [u32; 9] = [7, 8, 0xff, 0x100, 0x103, 0x1_0000, 0x0300_0000, 0x8000_0000, u32::MAX];
 
 /// Words of a kind that are well inside the domain.
 pub fn shape(kind: u32) -> &'static [f32] {

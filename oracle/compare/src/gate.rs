@@ -7,10 +7,7 @@ use std::time::Instant;
 pub type Part = (&'static str, fn() -> Result<String, String>);
 
 pub fn run() -> Result<(), String> {
-    run_parts(
-        "gate",
-        &[&scalar::GATE[..], &plan::GATE, &tree::GATE].concat(),
-    )
+    run_parts("gate", &[&scalar::GATE[..], &plan::GATE, &tree::GATE].concat())
 }
 
 /// One of the parts.

@@ -18,14 +18,7 @@ pub struct Progress {
 impl Progress {
     /// A run that goes through so many things.
     pub fn new(run: &'static str, of: usize, things: &'static str) -> Progress {
-        Progress {
-            run,
-            things,
-            of,
-            done: AtomicUsize::new(0),
-            start: Instant::now(),
-            told: AtomicU64::new(0),
-        }
+        Progress { run, things, of, done: AtomicUsize::new(0), start: Instant::now(), told: AtomicU64::new(0) }
     }
 
     /// So many more are done, in whatever thread. It looks at the clock, so it is not for each of
@@ -34,12 +27,7 @@ impl Progress {
         let done = self.done.fetch_add(more, Relaxed) + more;
         let (told, now) = (self.told.load(Relaxed), self.start.elapsed().as_secs());
         let due = now >= told + EVERY;
-        if due
-            && self
-                .told
-                .compare_exchange(told, now, Relaxed, Relaxed)
-                .is_ok()
-        {
+        if due && self.told.compare_exchange(told, now, Relaxed, Relaxed).is_ok() {
             let (done, of) = (grouped(done), grouped(self.of));
             eprintln!("{}: {done} of {of} {}, {now} s", self.run, self.things);
         }

@@ -12,18 +12,9 @@ pub fn prim(kind: u32, words: &[u32]) -> Prim {
         1 => Prim::RoundBox { c: a, b, r: f(6) },
         2 => Prim::Plane { n: a, h: f(3) },
         3 => Prim::Capsule { a, b, r: f(6) },
-        4 => Prim::Torus {
-            c: a,
-            major: f(3),
-            minor: f(4),
-        },
+        4 => Prim::Torus { c: a, major: f(3), minor: f(4) },
         5 => Prim::Cylinder { a, b, r: f(6) },
-        6 => Prim::Cone {
-            a,
-            b,
-            ra: f(6),
-            rb: f(7),
-        },
+        6 => Prim::Cone { a, b, ra: f(6), rb: f(7) },
         _ => panic!("kind {kind} is unknown and is refused"),
     }
 }

@@ -46,19 +46,13 @@ pub fn run() {
 /// So many objects in a room, each with so many cutters.
 pub fn plan(rng: &mut Rng, objects: usize, cutters: usize) -> Plan {
     let piece = |_| -> Piece { draw::piece(rng, &ROOM, List::Objects, 4, cutters) };
-    Plan {
-        objects: (0..objects).map(piece).collect(),
-        materials: vec![sound::material(); 4],
-        ..Plan::default()
-    }
+    Plan { objects: (0..objects).map(piece).collect(), materials: vec![sound::material(); 4], ..Plan::default() }
 }
 
 /// The args of queries: a point in the room, no bound.
 pub fn points(rng: &mut Rng) -> Vec<[u32; 5]> {
     let mut coord = || (rng.unit() * 20.0 - 10.0).to_bits();
-    (0..INPUTS)
-        .map(|_| [coord(), coord(), coord(), f32::MAX.to_bits(), 0])
-        .collect()
+    (0..INPUTS).map(|_| [coord(), coord(), coord(), f32::MAX.to_bits(), 0]).collect()
 }
 
 pub fn ask(lent: &mut Lent, args: &[u32; 5]) -> u32 {

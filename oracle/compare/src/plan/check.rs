@@ -90,14 +90,8 @@ fn wrong(name: &str, table: &Table) -> Option<String> {
     }
     let i = at as usize / 4;
     let (have, want) = (words::show(table.word(i)), words::show(table.must_word(i)));
-    let place = if name == "plan" {
-        place(i)
-    } else {
-        String::new()
-    };
-    Some(format!(
-        "word {i} of {name}{place} is {have}, must be {want}"
-    ))
+    let place = if name == "plan" { place(i) } else { String::new() };
+    Some(format!("word {i} of {name}{place} is {have}, must be {want}"))
 }
 
 /// Where a word of the plan stands.
@@ -112,11 +106,7 @@ fn place(i: usize) -> String {
 fn different(call: Call, lent: &Lent, what: &str) -> String {
     let lines = [
         format!("{}: {what}", call.name()),
-        format!(
-            "args of {} bytes: {}",
-            lent.args.len(),
-            words::show_all(&lent.args.before())
-        ),
+        format!("args of {} bytes: {}", lent.args.len(), words::show_all(&lent.args.before())),
         format!(
             "out of {} bytes, nodes of {}, order of {}, tree {}",
             lent.out.len(),
@@ -143,12 +133,7 @@ fn trees(call: Call, lent: &Lent) -> String {
     };
     let mut text = format!("tree of {} and {} bytes:", nodes.len(), order.len());
     let (nodes, order) = (nodes.before(), order.before());
-    let used = |words: &[u32]| {
-        words
-            .iter()
-            .rposition(|&word| word != 0)
-            .map_or(0, |i| i + 1)
-    };
+    let used = |words: &[u32]| words.iter().rposition(|&word| word != 0).map_or(0, |i| i + 1);
     for (i, node) in nodes[..used(&nodes)].chunks(NODE_WORDS).enumerate() {
         write!(text, "\n    node {i}: {node:08x?}").unwrap();
     }

@@ -56,26 +56,10 @@ fn of_call(rng: &mut Rng, call: Call, lent: &mut Lent) -> Result<usize, String> 
 fn short_tables(rng: &mut Rng, call: Call, lent: &mut Lent) -> Result<usize, String> {
     type Pick = fn(&mut Lent) -> &mut Table;
     let looked_at: [(Pick, usize, bool); 4] = [
-        (
-            |lent| &mut lent.nodes,
-            NODES_BYTES,
-            lent.looks_at_tree(call),
-        ),
-        (
-            |lent| &mut lent.order,
-            ORDER_BYTES,
-            lent.looks_at_tree(call),
-        ),
-        (
-            |lent| &mut lent.offered_nodes,
-            NODES_BYTES,
-            call == Call::Offer,
-        ),
-        (
-            |lent| &mut lent.offered_order,
-            ORDER_BYTES,
-            call == Call::Offer,
-        ),
+        (|lent| &mut lent.nodes, NODES_BYTES, lent.looks_at_tree(call)),
+        (|lent| &mut lent.order, ORDER_BYTES, lent.looks_at_tree(call)),
+        (|lent| &mut lent.offered_nodes, NODES_BYTES, call == Call::Offer),
+        (|lent| &mut lent.offered_order, ORDER_BYTES, call == Call::Offer),
     ];
     let mut count = 0;
     for (pick, full, _) in looked_at.into_iter().filter(|table| table.2) {
@@ -91,10 +75,7 @@ fn short_tables(rng: &mut Rng, call: Call, lent: &mut Lent) -> Result<usize, Str
 
 /// One material and nothing else, so that a piece can enter.
 fn lend(rng: &mut Rng, turn: usize, junk_in_the_plan: bool) -> Lent {
-    let plan = Plan {
-        materials: vec![sound::material(); 1],
-        ..Plan::default()
-    };
+    let plan = Plan { materials: vec![sound::material(); 1], ..Plan::default() };
     let mut lent = Lent::new(&plan, turn);
     if junk_in_the_plan {
         let junk: Vec<u32> = (0..PLAN_WORDS - 4).map(|_| rng.word()).collect();

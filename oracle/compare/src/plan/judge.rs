@@ -4,8 +4,8 @@ use super::layout::*;
 use super::lent::Lent;
 use crate::call::{Call, OUT_BYTES};
 use crate::judge::{
-    judge_floats, judge_prim, magnitude, not_negative, Lowest, Range, BAD_WORD, COORD, DONE,
-    NO_EXTENT, NO_MATERIAL, NO_ROOM, NO_TREE, PLANE, POINT, RADIUS, WRONG_KIND,
+    judge_floats, judge_prim, magnitude, not_negative, Lowest, Range, BAD_WORD, COORD, DONE, NO_EXTENT, NO_MATERIAL,
+    NO_ROOM, NO_TREE, PLANE, POINT, RADIUS, WRONG_KIND,
 };
 use crate::source::vec3;
 use crate::tree::judged;

@@ -36,12 +36,7 @@ enum Broken {
 }
 
 impl Broken {
-    const ALL: [Broken; 4] = [
-        Broken::Nowhere,
-        Broken::Plan,
-        Broken::Args,
-        Broken::LastCutter,
-    ];
+    const ALL: [Broken; 4] = [Broken::Nowhere, Broken::Plan, Broken::Args, Broken::LastCutter];
 }
 
 #[derive(Clone, Copy)]
@@ -91,11 +86,7 @@ impl Case {
     }
 
     fn tables(self) -> [Whole; 5] {
-        let whole = |pick, full, looked_at| Whole {
-            pick,
-            full,
-            looked_at,
-        };
+        let whole = |pick, full, looked_at| Whole { pick, full, looked_at };
         let written = matches!(self.call, Call::AddObject | Call::Build | Call::Offer);
         let tree = written || self.tree == 1;
         let offered = self.call == Call::Offer;

@@ -24,13 +24,7 @@ impl Table {
     /// A table of a full size of bytes, all of them the mark, `shift` bytes off an alignment.
     fn new(full: usize, shift: usize) -> Table {
         let bytes = vec![MARK; full + 2 * ABOUT];
-        Table {
-            must: bytes.clone(),
-            lent: bytes,
-            first: ABOUT / 2 + shift % 8,
-            len: full,
-            changes: Vec::new(),
-        }
+        Table { must: bytes.clone(), lent: bytes, first: ABOUT / 2 + shift % 8, len: full, changes: Vec::new() }
     }
 
     pub fn len(&self) -> usize {

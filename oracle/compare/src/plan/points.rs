@@ -34,11 +34,7 @@ pub struct Asked {
 
 impl Asking<'_> {
     pub fn new(plan: &Plan, shift: usize) -> Asking<'_> {
-        Asking {
-            plan,
-            scene: source::scene(plan),
-            lent: Lent::new(plan, shift),
-        }
+        Asking { plan, scene: source::scene(plan), lent: Lent::new(plan, shift) }
     }
 
     /// Lets anything stand where a tree would.
@@ -74,12 +70,7 @@ impl Asking<'_> {
                 }
                 answers.push([0, 1, 2, 3].map(|i| self.lent.out.word(i)));
             }
-            let asked = Asked {
-                point,
-                near,
-                bound,
-                answers,
-            };
+            let asked = Asked { point, near, bound, answers };
             take(&self.scene, asked);
         }
         Ok(())

@@ -27,18 +27,11 @@ pub fn run(plans: usize, points: usize) -> Result<String, String> {
         }
         of_plan(&mut rng, &plan, i, points, &mut tally)?;
     }
-    let Tally {
-        nearest,
-        bounds,
-        ties,
-        cut,
-    } = tally;
+    let Tally { nearest, bounds, ties, cut } = tally;
     // So few of a sort would mean that the cases are badly drawn.
     let least = plans * points / 50;
     if nearest.min(bounds).min(ties).min(cut) < least {
-        return Err(format!(
-            "badly drawn: {nearest} nearest, {bounds} bounds kept, {ties} ties, {cut} cut"
-        ));
+        return Err(format!("badly drawn: {nearest} nearest, {bounds} bounds kept, {ties} ties, {cut} cut"));
     }
     Ok(format!(
         "{plans} plans from {points} points, each the source's; \
@@ -50,10 +43,7 @@ pub fn run(plans: usize, points: usize) -> Result<String, String> {
 fn twins(rng: &mut Rng, plan: &mut Plan) {
     let count = plan.objects.len();
     for i in 0..count / 2 {
-        let twin = Piece {
-            material: rng.below(plan.materials.len()) as u32,
-            ..plan.objects[i].clone()
-        };
+        let twin = Piece { material: rng.below(plan.materials.len()) as u32, ..plan.objects[i].clone() };
         let cutters = |piece: &Piece| piece.cutters.len();
         if cutters(&plan.objects[count - 1 - i]) == cutters(&twin) {
             plan.objects[count - 1 - i] = twin;
@@ -61,13 +51,7 @@ fn twins(rng: &mut Rng, plan: &mut Plan) {
     }
 }
 
-fn of_plan(
-    rng: &mut Rng,
-    plan: &Plan,
-    shift: usize,
-    points: usize,
-    tally: &mut Tally,
-) -> Result<(), String> {
+fn of_plan(rng: &mut Rng, plan: &Plan, shift: usize, points: usize, tally: &mut Tally) -> Result<(), String> {
     let mut asking = Asking::new(plan, shift);
     asking.junk();
     asking.from_points(rng, points, &[0], |scene, asked| {

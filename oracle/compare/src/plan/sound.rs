@@ -10,9 +10,7 @@ use crate::words;
 pub const MATERIAL: [f32; 5] = [0.75, 0.5, 0.25, 0.5, 1.0];
 
 /// A skew panel: no change of one word makes it flat.
-pub const LIGHT: [f32; LIGHT_WORDS] = [
-    0.5, 3.0, 0.25, 2.5, 3.5, -0.5, 3.0, 3.25, 2.0, 0.75, 2.75, 2.5, 1.0, 20.0, 0.5,
-];
+pub const LIGHT: [f32; LIGHT_WORDS] = [0.5, 3.0, 0.25, 2.5, 3.5, -0.5, 3.0, 3.25, 2.0, 0.75, 2.75, 2.5, 1.0, 20.0, 0.5];
 
 pub fn material() -> Material {
     MATERIAL.map(f32::to_bits)

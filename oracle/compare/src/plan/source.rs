@@ -30,11 +30,7 @@ pub fn scene(plan: &Plan) -> Scene {
 pub fn object(piece: &Piece) -> Object {
     Object {
         prim: prim(piece.prim.kind, &piece.prim.shape),
-        subtract: piece
-            .cutters
-            .iter()
-            .map(|cutter| prim(cutter.kind, &cutter.shape))
-            .collect(),
+        subtract: piece.cutters.iter().map(|cutter| prim(cutter.kind, &cutter.shape)).collect(),
         mat: piece.material,
         blend: f32::from_bits(piece.blend),
     }
@@ -43,10 +39,7 @@ pub fn object(piece: &Piece) -> Object {
 /// The nearest object that is nearer than the bound, else the bound and the word beside it.
 #[inline]
 pub fn query(scene: &Scene, point: Vec3, bound: f32, material: u32) -> DistHit {
-    let mut best = DistHit {
-        d: bound,
-        mat: material,
-    };
+    let mut best = DistHit { d: bound, mat: material };
     if scene.use_bvh {
         scene.bvh.query(point, &scene.objects, &mut best);
     } else {
@@ -97,10 +90,7 @@ fn counts(lent: &Lent, scene: &Scene, args: &[u32], hit: DistHit) -> [u32; 2] {
     if lent.tree == 0 {
         return [0, scene.objects.len() as u32];
     }
-    let begin = DistHit {
-        d: f32::from_bits(args[3]),
-        mat: args[4],
-    };
+    let begin = DistHit { d: f32::from_bits(args[3]), mat: args[4] };
     let found = judged::found(lent, &scene.objects, vec3(args), begin);
     let alike = same(found.hit.d.to_bits(), hit.d.to_bits(), false);
     assert!(

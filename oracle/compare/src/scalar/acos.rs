@@ -58,7 +58,5 @@ pub fn sweep() -> Result<String, String> {
     })?;
     worst.join(other);
     worst.verdict()?;
-    Ok(format!(
-        "arc cosine: {count} patterns, each the formula's; {worst}"
-    ))
+    Ok(format!("arc cosine: {count} patterns, each the formula's; {worst}"))
 }

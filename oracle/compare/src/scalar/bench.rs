@@ -15,15 +15,7 @@ use interflect::sdf::Prim;
 /// Inputs of a loop: few enough to stay in the cache.
 const INPUTS: usize = 1024;
 
-const SHAPES: [&str; KINDS as usize] = [
-    "sphere",
-    "round box",
-    "plane",
-    "capsule",
-    "torus",
-    "cylinder",
-    "cone",
-];
+const SHAPES: [&str; KINDS as usize] = ["sphere", "round box", "plane", "capsule", "torus", "cylinder", "cone"];
 
 pub fn run() {
     let roots = floats(|rng| within(rng, RADIUS));
@@ -31,9 +23,7 @@ pub fn run() {
 
     let cosines = floats(|rng| rng.unit() * 2.0 - 1.0);
     pair("acos, libm", &cosines, ours_one(Call::Acos), |x| x.acos());
-    pair("acos, formula", &cosines, ours_one(Call::Acos), |x| {
-        acos::formula(*x)
-    });
+    pair("acos, formula", &cosines, ours_one(Call::Acos), |x| acos::formula(*x));
 
     for (kind, shape) in SHAPES.iter().enumerate() {
         let name = format!("dist, {shape}");
@@ -43,9 +33,7 @@ pub fn run() {
     let inputs = shapes(|_| true);
     pair("dist, any", &inputs, ours_dist, |i| i.prim.dist(i.point));
     let inputs = shapes(|k| k != PLANE);
-    pair("bounds, any", &inputs, ours_bounds, |i| {
-        i.prim.bounds().unwrap()
-    });
+    pair("bounds, any", &inputs, ours_bounds, |i| i.prim.bounds().unwrap());
 }
 
 fn floats(draw: impl Fn(&mut Rng) -> f32) -> Vec<f32> {

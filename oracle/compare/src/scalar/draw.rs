@@ -79,11 +79,7 @@ fn near_ends(rng: &mut Rng, shape: &mut [f32; 8]) {
 
 fn point_for(rng: &mut Rng, shape: &[f32], ends: bool) -> [f32; 3] {
     let first = [shape[0], shape[1], shape[2]];
-    let second = if ends {
-        [shape[3], shape[4], shape[5]]
-    } else {
-        first
-    };
+    let second = if ends { [shape[3], shape[4], shape[5]] } else { first };
     let along = within(rng, judge::NORMAL);
     let scale = within(rng, RADIUS);
     let style = rng.below(8);

@@ -24,23 +24,18 @@ pub fn run() -> Result<String, String> {
     }
     count += several_reasons()?;
     let sent = mixed()?;
-    Ok(format!(
-        "{count} lengths and orders; {MIXED} mixed, of each number {sent:?}"
-    ))
+    Ok(format!("{count} lengths and orders; {MIXED} mixed, of each number {sent:?}"))
 }
 
 /// Args that get each number there is for a call whose tables are long enough.
 fn by_content(call: Call) -> Vec<(Vec<u32>, u32)> {
     match call {
-        Call::Root | Call::Acos => vec![
-            (vec![0.75f32.to_bits()], DONE),
-            (vec![NOT_FINITE[0]], BAD_WORD),
-            (vec![(-2f32).to_bits()], BAD_WORD),
-        ],
+        Call::Root | Call::Acos => {
+            vec![(vec![0.75f32.to_bits()], DONE), (vec![NOT_FINITE[0]], BAD_WORD), (vec![(-2f32).to_bits()], BAD_WORD)]
+        }
         Call::PrimDist | Call::PrimBounds => {
-            let mut kinds: Vec<(Vec<u32>, u32)> = (0..KINDS)
-                .map(|kind| (sound(kind), number_of_sound(call, kind)))
-                .collect();
+            let mut kinds: Vec<(Vec<u32>, u32)> =
+                (0..KINDS).map(|kind| (sound(kind), number_of_sound(call, kind))).collect();
             let mut unknown = sound(0);
             unknown[0] = UNKNOWN_KINDS[0];
             kinds.push((unknown, BAD_WORD));

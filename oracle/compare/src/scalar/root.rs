@@ -64,8 +64,6 @@ pub fn sample() -> Result<String, String> {
 /// Every pattern.
 pub fn sweep() -> Result<String, String> {
     let count = MAX + 1;
-    halves("root", count, |_: &mut (), bits| {
-        check(Call::Root, &bits.to_le_bytes(), &mut [0; OUT_BYTES]).map(|_| ())
-    })?;
+    halves("root", count, |_: &mut (), bits| check(Call::Root, &bits.to_le_bytes(), &mut [0; OUT_BYTES]).map(|_| ()))?;
     Ok(format!("root: {count} patterns, each the hardware's"))
 }

@@ -28,7 +28,5 @@ pub fn run() -> Result<String, String> {
     if distances.iter().any(|&n| n < LEAST_OF_A_KIND) {
         return Err(format!("too few distances of some kind: {distances:?}"));
     }
-    Ok(format!(
-        "each the source's; by kind, distances {distances:?}, bounds {bounds:?}"
-    ))
+    Ok(format!("each the source's; by kind, distances {distances:?}, bounds {bounds:?}"))
 }

@@ -32,11 +32,11 @@ pub fn halves<T: Default + Send>(
     let half = |Range { start, end }: Range<u32>| -> Result<T, String> {
         let mut state = T::default();
         for first in (start..end).step_by(CHUNK as usize) {
-            let chunk = first..end.min(first + CHUNK);
-            progress.add(chunk.len());
-            for i in chunk {
+            let last = end.min(first + CHUNK);
+            for i in first..last {
                 each(&mut state, i)?;
             }
+            progress.add((last - first) as usize);
         }
         Ok(state)
     };

@@ -21,12 +21,7 @@ pub fn run() {
     let full = room(&mut rng, OBJECTS.records);
     let scene = scene(&full);
     let mut lent = Lent::new(&full, 0);
-    pair(
-        "build, 256 objects",
-        &[(); 8],
-        |_| viewer::lend(Call::Build, &mut lent),
-        |_| Bvh::build(&scene.objects),
-    );
+    pair("build, 256 objects", &[(); 8], |_| viewer::lend(Call::Build, &mut lent), |_| Bvh::build(&scene.objects));
     for objects in [4, 16, 64, 256] {
         query(&mut rng, objects);
     }
@@ -73,16 +68,10 @@ fn query(rng: &mut Rng, objects: usize) {
 /// The search alone: the call less one whose bound is below every distance, which pops the root
 /// and ends.
 fn search(lent: &mut Lent, points: &[[u32; 5]], (ours, theirs): (f64, f64)) {
-    let still: Vec<_> = points
-        .iter()
-        .map(|&[x, y, z, _, mat]| [x, y, z, (-1.0e30f32).to_bits(), mat])
-        .collect();
+    let still: Vec<_> = points.iter().map(|&[x, y, z, _, mat]| [x, y, z, (-1.0e30f32).to_bits(), mat]).collect();
     let loaded = alone("    load and test", &still, |args| ask(lent, args));
     let (search, ratio) = (ours - loaded, (ours - loaded) / theirs);
-    println!(
-        "{:<20} {search:>8.2} {theirs:>8.2} {ratio:>7.2}",
-        "    search alone"
-    );
+    println!("{:<20} {search:>8.2} {theirs:>8.2} {ratio:>7.2}", "    search alone");
 }
 
 fn averages(lent: &mut Lent, points: &[[u32; 5]]) -> [f64; 2] {

@@ -37,21 +37,9 @@ pub fn run(plans: usize, points: usize) -> Result<String, String> {
         let plan = draw::plan(&mut rng);
         of_plan(&mut rng, &plan, i, points, &mut tally)?;
     }
-    let Tally {
-        built,
-        deep,
-        overrun,
-        zeros,
-        most_nodes,
-        asked,
-        other_distance,
-        other_material,
-        pruned,
-    } = tally;
+    let Tally { built, deep, overrun, zeros, most_nodes, asked, other_distance, other_material, pruned } = tally;
     if deep < plans / 200 || overrun == 0 || pruned < asked / 4 {
-        return Err(format!(
-            "badly drawn: {deep} deep, {overrun} of them overrun, {pruned} of {asked} pruned"
-        ));
+        return Err(format!("badly drawn: {deep} deep, {overrun} of them overrun, {pruned} of {asked} pruned"));
     }
     Ok(format!(
         "{built} trees built as the source's ({zeros} but for signs of zeros), to {most_nodes} \
@@ -61,13 +49,7 @@ pub fn run(plans: usize, points: usize) -> Result<String, String> {
     ))
 }
 
-fn of_plan(
-    rng: &mut Rng,
-    plan: &Plan,
-    shift: usize,
-    points: usize,
-    tally: &mut Tally,
-) -> Result<(), String> {
+fn of_plan(rng: &mut Rng, plan: &Plan, shift: usize, points: usize, tally: &mut Tally) -> Result<(), String> {
     let mut asking = Asking::new(plan, shift);
     asking.scene.bvh = Bvh::build(&asking.scene.objects);
     if rng.one_in(2) {
@@ -84,9 +66,7 @@ fn of_plan(
     tally.most_nodes = tally.most_nodes.max(lent.out.word(0));
     tally.zeros += usize::from(differs(&scene.bvh, lent));
     asking.from_points(rng, points, &[0, 1], |_, asked| {
-        let [list, tree] = asked.answers[..] else {
-            unreachable!()
-        };
+        let [list, tree] = asked.answers[..] else { unreachable!() };
         tally.asked += 1;
         tally.other_distance += usize::from(list[0] != tree[0]);
         tally.other_material += usize::from(list[0] == tree[0] && list[1] != tree[1]);
@@ -119,10 +99,7 @@ fn overruns(scene: &Scene) -> bool {
     panic::set_hook(Box::new(|_| {}));
     let boxes = source::boxes(&scene.objects);
     let overruns = boxes.iter().any(|own| {
-        let mut best = DistHit {
-            d: f32::MAX,
-            mat: 0,
-        };
+        let mut best = DistHit { d: f32::MAX, mat: 0 };
         let search = || scene.bvh.query(own.lo, &scene.objects, &mut best);
         panic::catch_unwind(AssertUnwindSafe(search)).is_err()
     });

@@ -6,9 +6,7 @@ use super::rows::powers;
 use super::source::{boxes, build};
 use super::table::{Bounds, Node, Tables, COUNT, RIGHT, START};
 use crate::call::{Call, OUT_BYTES};
-use crate::judge::{
-    BAD_TREE, BAD_WORD, DONE, NO_EXTENT, NO_MATERIAL, NO_ROOM, NO_TREE, TOO_DEEP, WRONG_KIND,
-};
+use crate::judge::{BAD_TREE, BAD_WORD, DONE, NO_EXTENT, NO_MATERIAL, NO_ROOM, NO_TREE, TOO_DEEP, WRONG_KIND};
 use crate::plan::check::expect;
 use crate::plan::layout::*;
 use crate::plan::lent::Lent;
@@ -19,10 +17,7 @@ use crate::rng::Rng;
 use crate::words;
 
 pub fn run() -> Result<String, String> {
-    let mut cases = Cases {
-        count: 0,
-        lent: Lent::new(&Plan::default(), 0),
-    };
+    let mut cases = Cases { count: 0, lent: Lent::new(&Plan::default(), 0) };
     drops(&mut cases)?;
     depths(&mut cases)?;
     full(&mut cases)?;
@@ -75,16 +70,9 @@ impl Cases {
 
 /// Spheres of radius 0 on the x axis.
 fn spheres(xs: &[f32]) -> Plan {
-    let sphere = |&x: &f32| Piece {
-        prim: Prim::new(0, &words::bits(&[x, 0.0, 0.0, 0.0])),
-        blend: 0,
-        ..sound::piece(0, &[])
-    };
-    Plan {
-        materials: vec![sound::material(); 3],
-        objects: xs.iter().map(sphere).collect(),
-        ..Plan::default()
-    }
+    let sphere =
+        |&x: &f32| Piece { prim: Prim::new(0, &words::bits(&[x, 0.0, 0.0, 0.0])), blend: 0, ..sound::piece(0, &[]) };
+    Plan { materials: vec![sound::material(); 3], objects: xs.iter().map(sphere).collect(), ..Plan::default() }
 }
 
 fn in_a_row(count: usize) -> Plan {
@@ -124,12 +112,7 @@ fn drops(cases: &mut Cases) -> Result<(), String> {
 
 fn chain(plan: &Plan, depth: usize, lean: Lean) -> Tables {
     let mut rng = Rng::new(depth as u64);
-    make::tree(
-        &mut rng,
-        &bounds(plan),
-        Form::Chain(depth, lean),
-        Slack::Ulp,
-    )
+    make::tree(&mut rng, &bounds(plan), Form::Chain(depth, lean), Slack::Ulp)
 }
 
 /// Every depth that 256 objects can have.
@@ -174,22 +157,14 @@ fn overflows(cases: &mut Cases) -> Result<(), String> {
     cases.plan(&plan);
     let wide = make::wide_leaf(2);
     let Bounds { lo, hi } = wide.node(0).bounds;
-    let node = |[start, count, right]: [u32; 3]| Node {
-        bounds: Bounds { lo, hi },
-        start,
-        count,
-        right,
-    };
+    let node = |[start, count, right]: [u32; 3]| Node { bounds: Bounds { lo, hi }, start, count, right };
     let tree = |leaves: [[u32; 3]; 2], right: u32| {
         let nodes = [node([0, 0, right]), node(leaves[0]), node(leaves[1])];
         Tables::new(&nodes, &[0, 1])
     };
     cases.offer(&tree([[0, 1, 0], [1, 1, 0]], 2), DONE)?;
     // Sums that are 2 but for their carry.
-    cases.offer(
-        &tree([[0, 1 << 31, 0], [1 << 31, (1 << 31) + 2, 0]], 2),
-        BAD_TREE,
-    )?;
+    cases.offer(&tree([[0, 1 << 31, 0], [1 << 31, (1 << 31) + 2, 0]], 2), BAD_TREE)?;
     cases.offer(&tree([[0, u32::MAX, 0], [u32::MAX, 3, 0]], 2), BAD_TREE)?;
     cases.offer(&tree([[0, 3, 0], [3, u32::MAX, 0]], 2), BAD_TREE)?;
     for right in [0, 1, 3, 510, 511, 512, 1 << 31, (1 << 31) + 2, u32::MAX] {

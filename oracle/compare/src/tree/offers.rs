@@ -42,9 +42,7 @@ pub fn run(offers: usize) -> Result<String, String> {
         }
     }
     let [taken, bad, deep] = [DONE, BAD_TREE, TOO_DEEP].map(|n| tally.offered[n as usize]);
-    let Tally {
-        stood, not, known, ..
-    } = tally;
+    let Tally { stood, not, known, .. } = tally;
     let line = format!(
         "{offers} trees offered, {known} of them with a number known beforehand: {taken} taken, \
          {bad} got 6, {deep} got 7; as standing trees {stood} counted, {not} did not"
@@ -65,12 +63,7 @@ struct Case {
 impl Case {
     fn new(plan: Plan, shift: usize) -> Case {
         let objects: Vec<Object> = plan.objects.iter().map(object).collect();
-        Case {
-            boxes: source::boxes(&objects),
-            objects,
-            lent: Lent::new(&plan, shift),
-            plan,
-        }
+        Case { boxes: source::boxes(&objects), objects, lent: Lent::new(&plan, shift), plan }
     }
 
     fn offer(&mut self, rng: &mut Rng, tally: &mut Tally) -> Result<(), String> {
@@ -87,9 +80,7 @@ impl Case {
         self.lent.stand(&standing);
         if rng.one_in(4) {
             let junk = rng.word();
-            self.lent
-                .nodes
-                .fill(|i| (i as u32).wrapping_mul(junk) as u8);
+            self.lent.nodes.fill(|i| (i as u32).wrapping_mul(junk) as u8);
         }
         self.lent.offer(&tree);
         if let Some(number) = known {
@@ -103,13 +94,7 @@ impl Case {
     }
 
     /// The words that were offered stand as they are, with what lies past them.
-    fn stand(
-        &mut self,
-        rng: &mut Rng,
-        tree: &Tables,
-        sent: u32,
-        tally: &mut Tally,
-    ) -> Result<(), String> {
+    fn stand(&mut self, rng: &mut Rng, tree: &Tables, sent: u32, tally: &mut Tally) -> Result<(), String> {
         self.lent.stand(tree);
         self.lent.tree = 1;
         let call = rng.pick(Call::ASKS);

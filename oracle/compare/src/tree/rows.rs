@@ -16,11 +16,7 @@ use std::ops::RangeInclusive;
 
 pub fn run() -> Result<String, String> {
     let at = |xs: &[f32]| -> Vec<f32> { xs.to_vec() };
-    let r1 = [
-        node(0.0, 4.0, [0, 0, 2]),
-        node(0.0, 3.0, [0, 4, 0]),
-        node(4.0, 4.0, [4, 1, 0]),
-    ];
+    let r1 = [node(0.0, 4.0, [0, 0, 2]), node(0.0, 3.0, [0, 4, 0]), node(4.0, 4.0, [4, 1, 0])];
     let in_order: Vec<u32> = (0..5).collect();
     let r1_tables = Tables::new(&r1, &in_order);
     must_build("R1", &at(&[0.0, 1.0, 2.0, 3.0, 4.0]), 3, &r1_tables)?;
@@ -37,21 +33,11 @@ pub fn run() -> Result<String, String> {
     let lent = built(&powers(-26..=41), TOO_DEEP)?;
     let none = Tables::new(&[], &[]);
     same_tables("R3", &lent, &none)?;
-    Ok(format!(
-        "R1, R2, R3 (67 objects in {nodes} nodes, 68 get 7)"
-    ))
+    Ok(format!("R1, R2, R3 (67 objects in {nodes} nodes, 68 get 7)"))
 }
 
 fn node(from: f32, to: f32, [start, count, right]: [u32; 3]) -> Node {
-    Node {
-        bounds: Bounds {
-            lo: Vec3::new(from, 0.0, 0.0),
-            hi: Vec3::new(to, 0.0, 0.0),
-        },
-        start,
-        count,
-        right,
-    }
+    Node { bounds: Bounds { lo: Vec3::new(from, 0.0, 0.0), hi: Vec3::new(to, 0.0, 0.0) }, start, count, right }
 }
 
 /// Enters such spheres, and builds.
@@ -75,11 +61,7 @@ pub fn plan(xs: &[f32]) -> Plan {
         prim: Prim::new(0, &words::bits(&[x, 0.0, 0.0, 0.0])),
         cutters: Vec::new(),
     };
-    Plan {
-        objects: xs.iter().map(sphere).collect(),
-        materials: vec![sound::material()],
-        ..Plan::default()
-    }
+    Plan { objects: xs.iter().map(sphere).collect(), materials: vec![sound::material()], ..Plan::default() }
 }
 
 fn must_build(row: &str, xs: &[f32], nodes: u32, tables: &Tables) -> Result<(), String> {

@@ -51,14 +51,7 @@ fn lent(call: Call) -> Lent {
     let powers: Vec<f32> = (-214..=41).map(|i| 1.25f64.powi(i) as f32).collect();
     let mut full = chain(&powers);
     let bounds = boxes(&source::scene(&full).objects);
-    let mut deep = |depth| {
-        make::tree(
-            &mut rng,
-            &bounds,
-            Form::Chain(depth, Lean::Left),
-            Slack::None,
-        )
-    };
+    let mut deep = |depth| make::tree(&mut rng, &bounds, Form::Chain(depth, Lean::Left), Slack::None);
     let (standing, offered) = (deep(63), deep(OBJECTS.records - 1));
     let last = full.objects[0].args(|| 0);
     if call == Call::AddObject {
@@ -88,8 +81,6 @@ fn measure(call: Call, lent: &mut Lent) -> usize {
     }
     let number = black_box(viewer::lend(call, lent));
     assert!(matches!(number, 0 | 4 | 7), "{} got {number}", call.name());
-    let lowest = (0..MARKED)
-        .rev()
-        .find(|&i| unsafe { place(i).read_volatile() } != MARK);
+    let lowest = (0..MARKED).rev().find(|&i| unsafe { place(i).read_volatile() } != MARK);
     lowest.map_or(0, |i| i + FREE)
 }

@@ -64,10 +64,7 @@ fn the_source_finds_the_same() {
         let theirs = source::tree(&tables, verdict.nodes, objects.len());
         for _ in 0..POINTS {
             let point = vec3(&point(&mut rng, &plan));
-            let begin = DistHit {
-                d: bound(&mut rng, objects[0].dist(point)),
-                mat: rng.word(),
-            };
+            let begin = DistHit { d: bound(&mut rng, objects[0].dist(point)), mat: rng.word() };
             let mut best = begin;
             theirs.query(point, &objects, &mut best);
             let tree = shape(&tables).unwrap();

@@ -68,9 +68,7 @@ pub fn run(damages: usize) -> Result<String, String> {
         return Err(format!("badly drawn: of each number {in_all:?}"));
     }
     let lines = sent.lines();
-    Ok(format!(
-        "{damages} plans; of each number, 0 to 8, {in_all:?}{lines}"
-    ))
+    Ok(format!("{damages} plans; of each number, 0 to 8, {in_all:?}{lines}"))
 }
 
 /// Each word of one plan in turn, made no number: those that are read and no others are seen.
@@ -100,15 +98,11 @@ pub fn every_word() -> Result<String, String> {
         let (have, want) = (sent.0[call as usize], read_words(&plan, call));
         if have[1..6] != want || have[6..] != [0; 3] {
             let name = call.name();
-            return Err(format!(
-                "{name}: {have:?} numbers, of 1 to 5 must be {want:?}"
-            ));
+            return Err(format!("{name}: {have:?} numbers, of 1 to 5 must be {want:?}"));
         }
     }
     let lines = sent.lines();
-    Ok(format!(
-        "{PLAN_WORDS} in turn; of each number, 0 to 8{lines}"
-    ))
+    Ok(format!("{PLAN_WORDS} in turn; of each number, 0 to 8{lines}"))
 }
 
 /// How many words of a plan a call reads, by the number that they get when they are no number:
@@ -131,13 +125,7 @@ fn read_words(plan: &Plan, call: Call) -> [usize; 5] {
     read
 }
 
-fn try_call(
-    rng: &mut Rng,
-    plan: &Plan,
-    call: Call,
-    lent: &mut Lent,
-    sent: &mut Sent,
-) -> Result<(), String> {
+fn try_call(rng: &mut Rng, plan: &Plan, call: Call, lent: &mut Lent, sent: &mut Sent) -> Result<(), String> {
     let mut args = sound::args(call);
     if call.asks() {
         args[..3].copy_from_slice(&draw::point(rng, plan));

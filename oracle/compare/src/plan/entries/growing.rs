@@ -59,13 +59,7 @@ impl Growing {
     pub fn new(seed: u64) -> Growing {
         let mut rng = Rng::new(seed);
         let plan = Plan::default();
-        Growing {
-            lent: Lent::new(&plan, rng.below(64)),
-            plan,
-            style: draw::style(&mut rng),
-            rng,
-            sent: [0; 10],
-        }
+        Growing { lent: Lent::new(&plan, rng.below(64)), plan, style: draw::style(&mut rng), rng, sent: [0; 10] }
     }
 
     /// Something for a list: a piece has so many cutters, and one of so many materials.
@@ -125,9 +119,7 @@ impl Growing {
         (0..PLAN_WORDS).find(differs).map_or(Ok(()), |i| {
             let (have, model) = (self.lent.plan.word(i), table[i]);
             let (have, model) = (words::show(have), words::show(model));
-            Err(format!(
-                "word {i} of the plan is {have}, the model's {model}"
-            ))
+            Err(format!("word {i} of the plan is {have}, the model's {model}"))
         })
     }
 

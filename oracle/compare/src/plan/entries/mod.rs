@@ -27,9 +27,7 @@ pub fn run(sequences: usize) -> Result<String, String> {
         grown.push(random(100 + i as u64)?);
     }
     let sent: [usize; 10] = std::array::from_fn(|i| grown.iter().map(|g| g.sent[i]).sum());
-    Ok(format!(
-        "to every limit, and {sequences} sequences of {CALLS} calls; of each number {sent:?}"
-    ))
+    Ok(format!("to every limit, and {sequences} sequences of {CALLS} calls; of each number {sent:?}"))
 }
 
 /// Fills each list; one more gets 2, and so does a second one.
@@ -105,11 +103,7 @@ fn random(seed: u64) -> Result<Growing, String> {
     // In some sequences the short lists fill up late.
     let seldom = growing.rng.pick(&[1, 4, 20]);
     for _ in 0..CALLS {
-        let list = if growing.rng.one_in(seldom) {
-            growing.rng.pick(&List::ALL)
-        } else {
-            List::Objects
-        };
+        let list = if growing.rng.one_in(seldom) { growing.rng.pick(&List::ALL) } else { List::Objects };
         // Now and then a material that is not there.
         let absent = usize::from(growing.rng.one_in(16));
         let materials = (growing.plan.materials.len() + absent).max(1);

@@ -3,9 +3,7 @@
 use super::{entry, kinds, Cases, ABSENT, TOO_MANY};
 use crate::call::Call;
 use crate::chosen::{about, NOT_FINITE, UNKNOWN_KINDS};
-use crate::judge::{
-    self, BAD_WORD, COORD, DONE, KINDS, NO_MATERIAL, NO_ROOM, POINT, RADIUS, WRONG_KIND,
-};
+use crate::judge::{self, BAD_WORD, COORD, DONE, KINDS, NO_MATERIAL, NO_ROOM, POINT, RADIUS, WRONG_KIND};
 use crate::plan::judge::{BOUND, EMISSION, UNIT};
 use crate::plan::layout::*;
 use crate::plan::model::used;

@@ -11,13 +11,7 @@ use crate::words;
 /// Ends that differ by a step: where its square is computed as 0, the capsule gets 4, as a piece
 /// and as a cutter, given and in the plan.
 pub fn capsules(cases: &mut Cases) -> Result<(), String> {
-    let steps = [
-        (0.0, NO_EXTENT),
-        (f32::from_bits(1), NO_EXTENT),
-        (1e-23, NO_EXTENT),
-        (3e-23, DONE),
-        (1.0, DONE),
-    ];
+    let steps = [(0.0, NO_EXTENT), (f32::from_bits(1), NO_EXTENT), (1e-23, NO_EXTENT), (3e-23, DONE), (1.0, DONE)];
     for (step, number) in steps {
         for axis in 0..3 {
             let mut ends = [0.0; 7];
@@ -28,11 +22,7 @@ pub fn capsules(cases: &mut Cases) -> Result<(), String> {
                 cut.cutters[1] = capsule;
                 let mut own = sound::piece(CAPSULE, &[0]);
                 own.prim = capsule;
-                let wrong = if list == List::Planes && number == DONE {
-                    WRONG_KIND
-                } else {
-                    number
-                };
+                let wrong = if list == List::Planes && number == DONE { WRONG_KIND } else { number };
                 for (piece, number) in [(cut, number), (own, wrong)] {
                     cases.plan(&sound::plan());
                     cases.args(&piece.args(|| 0));

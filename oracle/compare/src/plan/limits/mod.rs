@@ -43,12 +43,7 @@ struct Cases {
 impl Cases {
     fn new() -> Cases {
         let [lent, base] = [0; 2].map(|_| Lent::new(&sound::plan(), 1));
-        Cases {
-            count: 0,
-            lent,
-            base,
-            bad_tree: None,
-        }
+        Cases { count: 0, lent, base, bad_tree: None }
     }
 
     /// The plan of the cases that follow.
@@ -62,13 +57,7 @@ impl Cases {
 
     /// Makes the call with some words of `args` and of the plan changed; by the list and by a tree
     /// that stands for the objects as they then are.
-    fn hold(
-        &mut self,
-        call: Call,
-        args: &[(usize, u32)],
-        plan: &[(usize, u32)],
-        number: u32,
-    ) -> Result<(), String> {
+    fn hold(&mut self, call: Call, args: &[(usize, u32)], plan: &[(usize, u32)], number: u32) -> Result<(), String> {
         self.lent.plan.copy(&self.base.plan);
         self.lent.args.copy(&self.base.args);
         for &(i, word) in args {
@@ -93,13 +82,7 @@ impl Cases {
 
     /// One word of the plan changed, for every call: `number` for those that test such a piece
     /// (`list`; all calls where there is none), 0 for the others.
-    fn with_plan(
-        &mut self,
-        list: Option<List>,
-        i: usize,
-        word: u32,
-        number: u32,
-    ) -> Result<(), String> {
+    fn with_plan(&mut self, list: Option<List>, i: usize, word: u32, number: u32) -> Result<(), String> {
         for call in Call::on_plans() {
             let tested = list.is_none_or(|list| call.tests().contains(&list));
             self.args(&sound::args(call));
@@ -111,17 +94,8 @@ impl Cases {
 
 fn rows(cases: &mut Cases) -> Result<(), String> {
     let sphere = |r: f32| Prim::new(0, &words::bits(&[0.0, 0.0, 0.0, r]));
-    let piece = Piece {
-        material: 0,
-        blend: 0,
-        prim: sphere(2.0),
-        cutters: vec![sphere(1.0)],
-    };
-    let p9 = Plan {
-        materials: vec![sound::material()],
-        objects: vec![piece],
-        ..Plan::default()
-    };
+    let piece = Piece { material: 0, blend: 0, prim: sphere(2.0), cutters: vec![sphere(1.0)] };
+    let p9 = Plan { materials: vec![sound::material()], objects: vec![piece], ..Plan::default() };
     cases.args(&[0, 0, 0]);
     for (name, plan, answer) in [("P9", p9, 1.0), ("P10", Plan::default(), f32::MAX)] {
         cases.plan(&plan);

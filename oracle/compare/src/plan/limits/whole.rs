@@ -11,10 +11,7 @@ use crate::plan::sound;
 /// A count may be at its limit; one above it, all calls refuse.
 pub fn counts(cases: &mut Cases) -> Result<(), String> {
     // Without cutters a record of zeros is a sound object: a sphere of radius 0.
-    let plan = Plan {
-        materials: vec![sound::material(); 3],
-        ..Plan::default()
-    };
+    let plan = Plan { materials: vec![sound::material(); 3], ..Plan::default() };
     cases.plan(&plan);
     for list in List::ALL {
         let most = list.section().records as u32;
@@ -31,10 +28,7 @@ pub fn counts(cases: &mut Cases) -> Result<(), String> {
         }
     }
     // No materials: every piece names one that is not there.
-    cases.plan(&Plan {
-        materials: Vec::new(),
-        ..sound::plan()
-    });
+    cases.plan(&Plan { materials: Vec::new(), ..sound::plan() });
     for call in Call::on_plans() {
         cases.args(&sound::args(call));
         let tested = !call.tests().is_empty();
@@ -118,15 +112,7 @@ pub fn never_read(cases: &mut Cases) -> Result<(), String> {
         places.extend(at + 1 + used(table[at])..at + ROW);
     }
     // An entry of ours writes the first two, or the last two.
-    for record in [
-        bottom,
-        bottom + 1,
-        bottom + 2,
-        500,
-        top - 3,
-        top - 2,
-        top - 1,
-    ] {
+    for record in [bottom, bottom + 1, bottom + 2, 500, top - 3, top - 2, top - 1] {
         places.extend(CUTTERS.at(record)..CUTTERS.at(record + 1));
     }
     for place in places {

@@ -3,9 +3,7 @@
 use super::base::{Base, UPRIGHT};
 use super::reason::{Change, Of, Reason};
 use crate::call::{Call, OUT_BYTES};
-use crate::judge::{
-    BAD_TREE, BAD_WORD, CAPSULE, NO_EXTENT, NO_MATERIAL, NO_ROOM, NO_TREE, PLANE, WRONG_KIND,
-};
+use crate::judge::{BAD_TREE, BAD_WORD, CAPSULE, NO_EXTENT, NO_MATERIAL, NO_ROOM, NO_TREE, PLANE, WRONG_KIND};
 use crate::plan::layout::*;
 use crate::plan::sound;
 use Change::{Args, ArgsLength, NodesLength, OrderLength, OutLength, PlanLength, Tree};
@@ -18,11 +16,7 @@ struct Reasons(Vec<Reason>);
 impl Reasons {
     fn add(&mut self, number: u32, of: Of, changes: impl Into<Vec<Change>>) {
         let changes = changes.into();
-        self.0.push(Reason {
-            number,
-            of,
-            changes,
-        });
+        self.0.push(Reason { number, of, changes });
     }
 }
 
@@ -62,10 +56,7 @@ fn trees(call: Call, tree: u32, reasons: &mut Reasons) {
         reasons.add(NO_TREE, Of::Lent, [Change::Order(0, 1)]);
     }
     if call == Call::Offer {
-        let lengths = [
-            Change::OfferedNodesLength(NODES_BYTES - 1),
-            Change::OfferedOrderLength(ORDER_BYTES - 1),
-        ];
+        let lengths = [Change::OfferedNodesLength(NODES_BYTES - 1), Change::OfferedOrderLength(ORDER_BYTES - 1)];
         for length in lengths {
             reasons.add(NO_ROOM, Of::Lent, [length]);
         }

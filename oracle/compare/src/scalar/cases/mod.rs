@@ -33,12 +33,7 @@ pub fn run() -> Result<String, String> {
     for case in limits.iter().chain(&degenerate) {
         hold(case)?;
     }
-    Ok(format!(
-        "{} rows, {} at limits, {} degenerate",
-        rows.len(),
-        limits.len(),
-        degenerate.len()
-    ))
+    Ok(format!("{} rows, {} at limits, {} degenerate", rows.len(), limits.len(), degenerate.len()))
 }
 
 fn hold(case: &Case) -> Result<(), String> {
