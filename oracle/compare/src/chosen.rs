@@ -13,6 +13,8 @@ pub const NOT_FINITE: [u32; 7] = [
     0xffff_ffff,
 ];
 
+pub const NAN: u32 = NOT_FINITE[2];
+
 /// No kinds, though some would be if only a part of the word were looked at.
 pub const UNKNOWN_KINDS: [u32; 9] = [7, 8, 0xff, 0x100, 0x103, 0x1_0000, 0x0300_0000, 0x8000_0000, u32::MAX];
 

@@ -33,7 +33,7 @@ fn main() -> ExitCode {
     let args: Vec<&str> = args.iter().map(String::as_str).collect();
     let result = match args[..] {
         ["gate"] => gate::run(),
-        ["sweep", which] => scalar::sweep::run(which),
+        ["sweep", which] => scalar::patterns::sweep(which),
         ["plan"] => gate::run_parts("plan", &plan::LONG),
         ["plan", part] => gate::run_one("plan", &plan::LONG, part),
         ["tree"] => gate::run_parts("tree", &tree::LONG),

@@ -6,9 +6,8 @@ use super::layout::*;
 use super::lent::{Lent, Table};
 use super::sound;
 use crate::call::{Call, OUT_BYTES};
+use crate::chosen::NAN;
 use crate::judge::{BAD_WORD, DONE, NO_ROOM};
-
-const NAN: u32 = 0x7fc0_0000;
 
 /// Bytes past a full size.
 const PAST: usize = 72;

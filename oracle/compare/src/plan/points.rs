@@ -45,7 +45,7 @@ impl Asking<'_> {
 
     /// Asks from so many points with each of these words `tree`; where one is 1, the scene has the
     /// tree that stands. `take` is told each.
-    pub fn from_points(
+    pub fn ask(
         &mut self,
         rng: &mut Rng,
         points: usize,

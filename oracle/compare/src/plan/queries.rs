@@ -54,7 +54,7 @@ fn twins(rng: &mut Rng, plan: &mut Plan) {
 fn of_plan(rng: &mut Rng, plan: &Plan, shift: usize, points: usize, tally: &mut Tally) -> Result<(), String> {
     let mut asking = Asking::new(plan, shift);
     asking.junk();
-    asking.from_points(rng, points, &[0], |scene, asked| {
+    asking.ask(rng, points, &[0], |scene, asked| {
         let Asked { point, near, .. } = asked;
         if near.d < asked.bound {
             let at = |o: &&Object| o.dist(point) == near.d;

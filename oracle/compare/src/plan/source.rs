@@ -15,8 +15,8 @@ use interflect::sdf::Object;
 /// given one.
 pub fn scene(plan: &Plan) -> Scene {
     Scene {
-        objects: plan.objects.iter().map(object).collect(),
-        planes: plan.planes.iter().map(object).collect(),
+        objects: objects(&plan.objects),
+        planes: objects(&plan.planes),
         materials: Vec::new(),
         lights: Vec::new(),
         camera: Camera::default(),
@@ -27,7 +27,11 @@ pub fn scene(plan: &Plan) -> Scene {
     }
 }
 
-pub fn object(piece: &Piece) -> Object {
+pub fn objects(pieces: &[Piece]) -> Vec<Object> {
+    pieces.iter().map(object).collect()
+}
+
+fn object(piece: &Piece) -> Object {
     Object {
         prim: prim(piece.prim.kind, &piece.prim.shape),
         subtract: piece.cutters.iter().map(|cutter| prim(cutter.kind, &cutter.shape)).collect(),

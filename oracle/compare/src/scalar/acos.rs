@@ -3,7 +3,7 @@
 
 use super::acos_error::AcosError;
 use super::check::check;
-use super::sweep::halves;
+use super::patterns::{self, halves};
 use crate::call::{Call, OUT_BYTES};
 use crate::words;
 
@@ -27,19 +27,10 @@ pub fn sample() -> Result<String, String> {
         Ok::<(), String>(())
     };
 
-    for size in (0..=ONE).step_by(STRIDE) {
+    // Powers of two, with their neighbours.
+    let powers = (1..127).map(|i| i << 23).flat_map(|power| power - 1..=power + 1);
+    for size in patterns::sample(ONE, STRIDE).chain(powers) {
         both_signs(size)?;
-    }
-    // The ends of the range and those of the subnormal numbers, then powers of two.
-    for i in 0..4096 {
-        both_signs(i)?;
-        both_signs(ONE - i)?;
-        both_signs(f32::MIN_POSITIVE.to_bits() - 2048 + i)?;
-    }
-    for power in (1..127).map(|i| i << 23) {
-        for size in power - 1..=power + 1 {
-            both_signs(size)?;
-        }
     }
     worst.verdict()?;
     Ok(format!("{count} patterns, each the formula's; {worst}"))

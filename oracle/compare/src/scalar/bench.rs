@@ -19,21 +19,22 @@ const SHAPES: [&str; KINDS as usize] = ["sphere", "round box", "plane", "capsule
 
 pub fn run() {
     let roots = floats(|rng| within(rng, RADIUS));
-    pair("root", &roots, ours_one(Call::Root), |x| x.sqrt());
+    pair("root", &roots, |x| ours(Call::Root, &x.to_le_bytes()), |x| x.sqrt());
 
     let cosines = floats(|rng| rng.unit() * 2.0 - 1.0);
-    pair("acos, libm", &cosines, ours_one(Call::Acos), |x| x.acos());
-    pair("acos, formula", &cosines, ours_one(Call::Acos), |x| acos::formula(*x));
+    let ours_acos = |x: &f32| ours(Call::Acos, &x.to_le_bytes());
+    pair("acos, libm", &cosines, ours_acos, |x| x.acos());
+    pair("acos, formula", &cosines, ours_acos, |x| acos::formula(*x));
 
+    let dist = |name: &str, inputs: &[Input]| {
+        pair(name, inputs, |i| ours(Call::PrimDist, &i.args), |i| i.prim.dist(i.point));
+    };
     for (kind, shape) in SHAPES.iter().enumerate() {
-        let name = format!("dist, {shape}");
-        let inputs = shapes(|k| k == kind as u32);
-        pair(&name, &inputs, ours_dist, |i| i.prim.dist(i.point));
+        dist(&format!("dist, {shape}"), &shapes(|k| k == kind as u32));
     }
-    let inputs = shapes(|_| true);
-    pair("dist, any", &inputs, ours_dist, |i| i.prim.dist(i.point));
+    dist("dist, any", &shapes(|_| true));
     let inputs = shapes(|k| k != PLANE);
-    pair("bounds, any", &inputs, ours_bounds, |i| i.prim.bounds().unwrap());
+    pair("bounds, any", &inputs, |i| ours(Call::PrimBounds, &i.args), |i| i.prim.bounds().unwrap());
 }
 
 fn floats(draw: impl Fn(&mut Rng) -> f32) -> Vec<f32> {
@@ -66,22 +67,9 @@ fn shapes(wanted: impl Fn(u32) -> bool) -> Vec<Input> {
     inputs
 }
 
-fn ours_one(call: Call) -> impl Fn(&f32) -> [u8; OUT_BYTES] {
-    move |x| {
-        let mut out = [0; OUT_BYTES];
-        viewer::send(call, &x.to_le_bytes(), &mut out);
-        out
-    }
-}
-
-fn ours_dist(input: &Input) -> [u8; OUT_BYTES] {
+#[inline(always)]
+fn ours(call: Call, args: &[u8]) -> [u8; OUT_BYTES] {
     let mut out = [0; OUT_BYTES];
-    viewer::send(Call::PrimDist, &input.args, &mut out);
-    out
-}
-
-fn ours_bounds(input: &Input) -> [u8; OUT_BYTES] {
-    let mut out = [0; OUT_BYTES];
-    viewer::send(Call::PrimBounds, &input.args, &mut out);
+    viewer::send(call, args, &mut out);
     out
 }

@@ -10,11 +10,11 @@ mod cases;
 mod check;
 pub mod draw;
 mod judge;
+pub mod patterns;
 mod refusals;
 mod root;
 mod shapes;
 pub mod store;
-pub mod sweep;
 
 use crate::gate::Part;
 use crate::words;

@@ -1,7 +1,7 @@
 //! Root on patterns from 0 to f32::MAX, bit for bit the hardware's.
 
 use super::check::check;
-use super::sweep::halves;
+use super::patterns::{self, halves};
 use crate::call::{Call, OUT_BYTES};
 use crate::rng::Rng;
 
@@ -22,16 +22,9 @@ pub fn sample() -> Result<String, String> {
         check(Call::Root, &bits.to_le_bytes(), &mut out)
     };
 
-    for bits in (0..=MAX).step_by(STRIDE) {
+    for bits in patterns::sample(MAX, STRIDE).chain([(-0f32).to_bits()]) {
         root(bits)?;
     }
-    // The ends of the range, -0, and both ends of the subnormal numbers.
-    for i in 0..4096 {
-        root(i)?;
-        root(MAX - i)?;
-        root(f32::MIN_POSITIVE.to_bits() - 2048 + i)?;
-    }
-    root((-0f32).to_bits())?;
     // Powers of two with their neighbours: the subnormal ones, then the others.
     for power in (0..23).map(|i| 1 << i).chain((1..255).map(|i| i << 23)) {
         for bits in power - 1..=power + 1 {

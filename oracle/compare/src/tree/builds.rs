@@ -65,7 +65,7 @@ fn of_plan(rng: &mut Rng, plan: &Plan, shift: usize, points: usize, tally: &mut 
     tally.built += 1;
     tally.most_nodes = tally.most_nodes.max(lent.out.word(0));
     tally.zeros += usize::from(differs(&scene.bvh, lent));
-    asking.from_points(rng, points, &[0, 1], |_, asked| {
+    asking.ask(rng, points, &[0, 1], |_, asked| {
         let [list, tree] = asked.answers[..] else { unreachable!() };
         tally.asked += 1;
         tally.other_distance += usize::from(list[0] != tree[0]);

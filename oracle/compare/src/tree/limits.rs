@@ -6,13 +6,14 @@ use super::rows::powers;
 use super::source::{boxes, build};
 use super::table::{Bounds, Node, Tables, COUNT, RIGHT, START};
 use crate::call::{Call, OUT_BYTES};
+use crate::chosen::NAN;
 use crate::judge::{BAD_TREE, BAD_WORD, DONE, NO_EXTENT, NO_MATERIAL, NO_ROOM, NO_TREE, TOO_DEEP, WRONG_KIND};
 use crate::plan::check::expect;
 use crate::plan::layout::*;
 use crate::plan::lent::Lent;
 use crate::plan::model::{Piece, Plan, Prim};
 use crate::plan::sound;
-use crate::plan::source::object;
+use crate::plan::source::objects;
 use crate::rng::Rng;
 use crate::words;
 
@@ -81,8 +82,7 @@ fn in_a_row(count: usize) -> Plan {
 }
 
 fn bounds(plan: &Plan) -> Vec<Bounds> {
-    let objects: Vec<_> = plan.objects.iter().map(object).collect();
-    boxes(&objects)
+    boxes(&objects(&plan.objects))
 }
 
 /// A new object drops the tree; a material, a plane and a light leave it.
@@ -198,7 +198,7 @@ fn zeros(cases: &mut Cases) -> Result<(), String> {
 
 /// Changes of a plan's first object that break it, with what each gets.
 const BROKEN: [(usize, u32, u32); 5] = [
-    (BLEND, 0x7fc0_0000, BAD_WORD),
+    (BLEND, NAN, BAD_WORD),
     (CUTS, 9, NO_ROOM),
     (MATERIAL, 3, NO_MATERIAL),
     (KIND, 3, NO_EXTENT),
@@ -244,8 +244,7 @@ fn deep_builds(cases: &mut Cases) -> Result<(), String> {
 /// A deep tree that breaks another rule gets 6, and the source's own deep tree 7.
 fn deep_offers(cases: &mut Cases) -> Result<(), String> {
     let plan = spheres(&powers(-26..=41));
-    let objects: Vec<_> = plan.objects.iter().map(object).collect();
-    let deep = build(&objects);
+    let deep = build(&objects(&plan.objects));
     cases.plan(&plan);
     cases.offer(&deep, TOO_DEEP)?;
     let mut broken = deep.clone();
@@ -253,7 +252,7 @@ fn deep_offers(cases: &mut Cases) -> Result<(), String> {
     cases.offer(&broken, BAD_TREE)?;
     for word in 0..NODE_WORDS {
         let mut broken = deep.clone();
-        broken.nodes[word] = 0x7fc0_0000;
+        broken.nodes[word] = NAN;
         cases.offer(&broken, BAD_TREE)?;
     }
     cases.lent.any_tree();

@@ -13,7 +13,7 @@ use crate::plan::draw::point;
 use crate::plan::lent::Lent;
 use crate::plan::model::Plan;
 use crate::plan::sound;
-use crate::plan::source::object;
+use crate::plan::source::objects;
 use crate::progress::through;
 use crate::rng::Rng;
 use interflect::sdf::Object;
@@ -62,7 +62,7 @@ struct Case {
 
 impl Case {
     fn new(plan: Plan, shift: usize) -> Case {
-        let objects: Vec<Object> = plan.objects.iter().map(object).collect();
+        let objects = objects(&plan.objects);
         Case { boxes: source::boxes(&objects), objects, lent: Lent::new(&plan, shift), plan }
     }
 

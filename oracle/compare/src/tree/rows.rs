@@ -27,7 +27,7 @@ pub fn run() -> Result<String, String> {
     }
 
     let chain = powers(-25..=41);
-    let theirs = Bvh::build(&source::scene(&plan(&chain)).objects);
+    let theirs = Bvh::build(&source::scene(&spheres(&chain)).objects);
     let nodes = theirs.node_count() as u32;
     must_build("R3", &chain, nodes, &tables(&theirs))?;
     let lent = built(&powers(-26..=41), TOO_DEEP)?;
@@ -45,7 +45,7 @@ fn built(xs: &[f32], number: u32) -> Result<Lent, String> {
     let mut lent = Lent::new(&Plan::default(), 3);
     lent.args(&sound::material());
     expect(Call::AddMaterial, &mut lent, DONE)?;
-    for sphere in plan(xs).objects {
+    for sphere in spheres(xs).objects {
         lent.args(&sphere.args(|| 0));
         expect(Call::AddObject, &mut lent, DONE)?;
     }
@@ -54,7 +54,7 @@ fn built(xs: &[f32], number: u32) -> Result<Lent, String> {
 }
 
 /// Spheres of radius 0 and no blend at these places of the x axis.
-pub fn plan(xs: &[f32]) -> Plan {
+pub fn spheres(xs: &[f32]) -> Plan {
     let sphere = |&x: &f32| Piece {
         material: 0,
         blend: 0,

@@ -2,7 +2,7 @@
 //! and the lowest place looked for that no longer holds the mark.
 
 use super::make::{self, Form, Lean, Slack};
-use super::rows::plan as chain;
+use super::rows::spheres;
 use super::source::boxes;
 use crate::call::Call;
 use crate::plan::layout::OBJECTS;
@@ -49,7 +49,7 @@ fn used(call: Call) -> usize {
 fn lent(call: Call) -> Lent {
     let mut rng = Rng::new(9);
     let powers: Vec<f32> = (-214..=41).map(|i| 1.25f64.powi(i) as f32).collect();
-    let mut full = chain(&powers);
+    let mut full = spheres(&powers);
     let bounds = boxes(&source::scene(&full).objects);
     let mut deep = |depth| make::tree(&mut rng, &bounds, Form::Chain(depth, Lean::Left), Slack::None);
     let (standing, offered) = (deep(63), deep(OBJECTS.records - 1));

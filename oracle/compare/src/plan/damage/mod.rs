@@ -9,7 +9,7 @@ use super::lent::Lent;
 use super::model::{cutters_of, used, Plan};
 use super::{draw, sound};
 use crate::call::Call;
-use crate::chosen::NOT_FINITE;
+use crate::chosen::NAN;
 use crate::progress::through;
 use crate::rng::Rng;
 
@@ -90,7 +90,7 @@ pub fn every_word() -> Result<String, String> {
         for call in Call::on_plans() {
             lent.copy(&good);
             lent.tree = (i % 2) as u32;
-            lent.plan.put(i, &NOT_FINITE[2..3]);
+            lent.plan.put(i, &[NAN]);
             try_call(&mut rng, &plan, call, &mut lent, &mut sent)?;
         }
     }

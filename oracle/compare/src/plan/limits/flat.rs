@@ -43,12 +43,7 @@ fn in_the_plan(list: List, piece: Piece, number: u32, cases: &mut Cases) -> Resu
         _ => plan.objects.push(piece),
     }
     cases.plan(&plan);
-    for call in Call::on_plans() {
-        let tested = call.tests().contains(&list);
-        cases.args(&sound::args(call));
-        cases.hold(call, &[], &[], if tested { number } else { DONE })?;
-    }
-    Ok(())
+    cases.every_call(&[], |call| if call.tests().contains(&list) { number } else { DONE })
 }
 
 pub fn lights(cases: &mut Cases) -> Result<(), String> {

@@ -7,12 +7,13 @@ mod pieces;
 mod whole;
 
 use super::check::expect;
-use super::layout::List;
+use super::layout::*;
 use super::lent::Lent;
 use super::model::{Piece, Plan, Prim};
 use super::sound;
 use crate::call::Call;
-use crate::judge::{DONE, KINDS, PLANE};
+use crate::chosen::{about, UNKNOWN_KINDS};
+use crate::judge::{self, BAD_WORD, DONE, KINDS, NO_MATERIAL, NO_ROOM, PLANE, RADIUS};
 use crate::words;
 
 pub fn run() -> Result<String, String> {
@@ -83,10 +84,15 @@ impl Cases {
     /// One word of the plan changed, for every call: `number` for those that test such a piece
     /// (`list`; all calls where there is none), 0 for the others.
     fn with_plan(&mut self, list: Option<List>, i: usize, word: u32, number: u32) -> Result<(), String> {
+        let tested = |call: Call| list.is_none_or(|list| call.tests().contains(&list));
+        self.every_call(&[(i, word)], |call| if tested(call) { number } else { DONE })
+    }
+
+    /// Every call on sound `args`, with some words of the plan changed.
+    fn every_call(&mut self, plan: &[(usize, u32)], number: impl Fn(Call) -> u32) -> Result<(), String> {
         for call in Call::on_plans() {
-            let tested = list.is_none_or(|list| call.tests().contains(&list));
             self.args(&sound::args(call));
-            self.hold(call, &[], &[(i, word)], if tested { number } else { DONE })?;
+            self.hold(call, &[], plan, number(call))?;
         }
         Ok(())
     }
@@ -113,6 +119,26 @@ fn rows(cases: &mut Cases) -> Result<(), String> {
 /// The kinds that a piece of the list may have.
 fn kinds(list: List) -> impl Iterator<Item = u32> {
     (0..KINDS).filter(move |&kind| (kind == PLANE) == (list == List::Planes))
+}
+
+/// A kind and its words about their limits: each place from that of the kind on, the word, its number.
+fn shape(kind: u32) -> Vec<(usize, u32, u32)> {
+    let mut words: Vec<(usize, u32, u32)> = Vec::new();
+    for (i, &range) in judge::ranges(kind).unwrap().iter().enumerate() {
+        words.extend(about(range, DONE).into_iter().map(|(word, number)| (1 + i, word, number)));
+    }
+    words.extend(UNKNOWN_KINDS.map(|unknown| (0, unknown, BAD_WORD)));
+    words
+}
+
+/// The other words of a piece likewise, where three materials are.
+fn own_words() -> Vec<(usize, u32, u32)> {
+    let blends = about(RADIUS, DONE).into_iter().map(|(word, number)| (BLEND, word, number));
+    let mut words: Vec<(usize, u32, u32)> = blends.collect();
+    words.extend([0, 1, 2].map(|material| (MATERIAL, material, DONE)));
+    words.extend(ABSENT.map(|material| (MATERIAL, material, NO_MATERIAL)));
+    words.extend(TOO_MANY.map(|cuts| (CUTS, cuts, NO_ROOM)));
+    words
 }
 
 /// Numbers of materials that are not there, where three are.

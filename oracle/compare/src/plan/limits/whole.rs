@@ -18,22 +18,20 @@ pub fn counts(cases: &mut Cases) -> Result<(), String> {
         for more in [1, 2, most, 0x100, 0x1_0000, 1 << 31, u32::MAX - most] {
             cases.with_plan(None, list as usize, most + more, NO_ROOM)?;
         }
-        for call in Call::on_plans() {
-            cases.args(&sound::args(call));
+        cases.every_call(&[(list as usize, most)], |call| {
             // Among planes such a record is at place 0, where 1,024 must stand.
             let misplaced = list == List::Planes && call.tests().contains(&list);
             let refused = call.enters() == Some(list) || misplaced;
-            let number = if refused { NO_ROOM } else { DONE };
-            cases.hold(call, &[], &[(list as usize, most)], number)?;
-        }
+            if refused {
+                NO_ROOM
+            } else {
+                DONE
+            }
+        })?;
     }
     // No materials: every piece names one that is not there.
     cases.plan(&Plan { materials: Vec::new(), ..sound::plan() });
-    for call in Call::on_plans() {
-        cases.args(&sound::args(call));
-        let tested = !call.tests().is_empty();
-        cases.hold(call, &[], &[], if tested { NO_MATERIAL } else { DONE })?;
-    }
+    cases.every_call(&[], |call| if call.tests().is_empty() { DONE } else { NO_MATERIAL })?;
     cases.plan(&sound::plan());
     Ok(())
 }
@@ -75,11 +73,7 @@ pub fn sums(cases: &mut Cases) -> Result<(), String> {
         table[OBJECTS.at(i) + PLACE] = 8 * i as u32;
     }
     cases.base.plan.put(0, &table);
-    for call in Call::on_plans() {
-        cases.args(&sound::args(call));
-        let tested = !call.tests().is_empty();
-        cases.hold(call, &[], &[], if tested { NO_ROOM } else { DONE })?;
-    }
+    cases.every_call(&[], |call| if call.tests().is_empty() { DONE } else { NO_ROOM })?;
     cases.plan(&sound::plan());
     Ok(())
 }

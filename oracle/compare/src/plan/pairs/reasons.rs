@@ -3,12 +3,11 @@
 use super::base::{Base, UPRIGHT};
 use super::reason::{Change, Of, Reason};
 use crate::call::{Call, OUT_BYTES};
+use crate::chosen::NAN;
 use crate::judge::{BAD_TREE, BAD_WORD, CAPSULE, NO_EXTENT, NO_MATERIAL, NO_ROOM, NO_TREE, PLANE, WRONG_KIND};
 use crate::plan::layout::*;
 use crate::plan::sound;
 use Change::{Args, ArgsLength, NodesLength, OrderLength, OutLength, PlanLength, Tree};
-
-const NAN: u32 = 0x7fc0_0000;
 
 /// The reasons that are gathered.
 struct Reasons(Vec<Reason>);

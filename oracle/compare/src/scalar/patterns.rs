@@ -1,4 +1,4 @@
-//! The long runs over every pattern.
+//! Runs over the patterns of a float: a sample for the gate, and the long ones over every pattern.
 
 use super::{acos, root};
 use crate::progress::Progress;
@@ -6,7 +6,14 @@ use std::ops::Range;
 use std::thread;
 use std::time::Instant;
 
-pub fn run(which: &str) -> Result<(), String> {
+/// A sample of the patterns from 0 to `last`, the ends of that range and both ends of the subnormal numbers.
+pub fn sample(last: u32, stride: usize) -> impl Iterator<Item = u32> {
+    let ends = (0..4096).flat_map(move |i| [i, last - i, f32::MIN_POSITIVE.to_bits() - 2048 + i]);
+    (0..=last).step_by(stride).chain(ends)
+}
+
+/// One of the long runs.
+pub fn sweep(which: &str) -> Result<(), String> {
     let start = Instant::now();
     let line = match which {
         "root" => root::sweep()?,
