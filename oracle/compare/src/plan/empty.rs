@@ -3,7 +3,7 @@
 
 use super::check::expect;
 use super::layout::*;
-use super::lent::{Lent, Table};
+use super::lent::{Lent, Which};
 use super::model::Plan;
 use super::{draw, sound};
 use crate::call::Call;
@@ -54,20 +54,20 @@ fn of_call(rng: &mut Rng, call: Call, lent: &mut Lent) -> Result<usize, String> 
 /// The empty tree always stands, and what is offered is not judged; but tables of trees may not be
 /// short.
 fn short_tables(rng: &mut Rng, call: Call, lent: &mut Lent) -> Result<usize, String> {
-    type Pick = fn(&mut Lent) -> &mut Table;
-    let looked_at: [(Pick, usize, bool); 4] = [
-        (|lent| &mut lent.nodes, NODES_BYTES, lent.looks_at_tree(call)),
-        (|lent| &mut lent.order, ORDER_BYTES, lent.looks_at_tree(call)),
-        (|lent| &mut lent.offered_nodes, NODES_BYTES, call == Call::Offer),
-        (|lent| &mut lent.offered_order, ORDER_BYTES, call == Call::Offer),
+    let (tree, offered) = (lent.looks_at_tree(call), call == Call::Offer);
+    let looked_at = [
+        (Which::Nodes, NODES_BYTES, tree),
+        (Which::Order, ORDER_BYTES, tree),
+        (Which::OfferedNodes, NODES_BYTES, offered),
+        (Which::OfferedOrder, ORDER_BYTES, offered),
     ];
     let mut count = 0;
-    for (pick, full, _) in looked_at.into_iter().filter(|table| table.2) {
+    for (table, full, _) in looked_at.into_iter().filter(|table| table.2) {
         let any = rng.below(full);
         let short = rng.pick(&[full - 1, full - 4, any]);
-        pick(lent).resize(short);
+        lent.table(table).resize(short);
         expect(call, lent, NO_ROOM)?;
-        pick(lent).resize(full);
+        lent.table(table).resize(full);
         count += 1;
     }
     Ok(count)

@@ -3,7 +3,7 @@
 
 use super::check::expect;
 use super::layout::*;
-use super::lent::{Lent, Table};
+use super::lent::{Lent, Which};
 use super::sound;
 use crate::call::{Call, OUT_BYTES};
 use crate::chosen::NAN;
@@ -56,13 +56,6 @@ fn lengths(full: usize) -> Vec<usize> {
     lengths
 }
 
-/// A table that may be lent, its full size, and whether the call looks at it at all.
-struct Whole {
-    pick: fn(&mut Lent) -> &mut Table,
-    full: usize,
-    looked_at: bool,
-}
-
 impl Case {
     fn lend(self) -> Lent {
         let mut lent = Lent::new(&sound::plan(), 0);
@@ -84,28 +77,28 @@ impl Case {
         self.call.args_words() == ROW
     }
 
-    fn tables(self) -> [Whole; 5] {
-        let whole = |pick, full, looked_at| Whole { pick, full, looked_at };
+    /// Tables that may be lent, their full sizes, and whether the call looks at them at all.
+    fn tables(self) -> [(Which, usize, bool); 5] {
         let written = matches!(self.call, Call::AddObject | Call::Build | Call::Offer);
         let tree = written || self.tree == 1;
         let offered = self.call == Call::Offer;
         [
-            whole(|lent| &mut lent.plan, PLAN_BYTES, true),
-            whole(|lent| &mut lent.nodes, NODES_BYTES, tree),
-            whole(|lent| &mut lent.order, ORDER_BYTES, tree),
-            whole(|lent| &mut lent.offered_nodes, NODES_BYTES, offered),
-            whole(|lent| &mut lent.offered_order, ORDER_BYTES, offered),
+            (Which::Plan, PLAN_BYTES, true),
+            (Which::Nodes, NODES_BYTES, tree),
+            (Which::Order, ORDER_BYTES, tree),
+            (Which::OfferedNodes, NODES_BYTES, offered),
+            (Which::OfferedOrder, ORDER_BYTES, offered),
         ]
     }
 
     fn whole_tables(self) -> Result<usize, String> {
         let mut count = 0;
-        for table in self.tables() {
-            for len in lengths(table.full) {
+        for (table, full, looked_at) in self.tables() {
+            for len in lengths(full) {
                 let mut lent = self.lend();
-                (table.pick)(&mut lent).resize(len);
-                let short = table.looked_at && len < table.full;
-                let plan_short = short && table.full == PLAN_BYTES;
+                lent.table(table).resize(len);
+                let short = looked_at && len < full;
+                let plan_short = short && table == Which::Plan;
                 let judged = match self.broken {
                     Broken::Nowhere => false,
                     Broken::Plan => !plan_short && !self.call.tests().is_empty(),

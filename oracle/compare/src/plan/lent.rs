@@ -121,6 +121,18 @@ impl Table {
     }
 }
 
+/// One of the tables that are lent.
+#[derive(Clone, Copy, PartialEq)]
+pub enum Which {
+    Plan,
+    Nodes,
+    Order,
+    OfferedNodes,
+    OfferedOrder,
+    Args,
+    Out,
+}
+
 pub struct Lent {
     pub plan: Table,
     pub nodes: Table,
@@ -155,6 +167,18 @@ impl Lent {
         }
         lent.args(&[]);
         lent
+    }
+
+    pub fn table(&mut self, which: Which) -> &mut Table {
+        match which {
+            Which::Plan => &mut self.plan,
+            Which::Nodes => &mut self.nodes,
+            Which::Order => &mut self.order,
+            Which::OfferedNodes => &mut self.offered_nodes,
+            Which::OfferedOrder => &mut self.offered_order,
+            Which::Args => &mut self.args,
+            Which::Out => &mut self.out,
+        }
     }
 
     pub fn stand(&mut self, tree: &Tables) {
