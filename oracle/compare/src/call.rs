@@ -45,7 +45,7 @@ macro_rules! calls {
 }
 
 calls! {
-    /// Lent `args` and `out` alone.
+    /// Lent `args` and `out` alone. Stored answers name them by their place, so a new one comes last.
     SCALAR {
         Root = viewer_root: args 1, out 1;
         Acos = viewer_acos: args 1, out 1;

@@ -61,12 +61,14 @@ fn compare(call: Call, lent: &mut Lent, scene: Option<&Scene>) -> Result<u32, St
 /// A distance is compared as a float, and so are the corners of a tree that was built: zeros of
 /// both signs are equal.
 fn as_floats(call: Call, lent: &mut Lent) {
-    if call.asks() {
-        take_zeros(&mut lent.out, 0..1);
-    }
-    if call == Call::Build {
-        let corner = |i: &usize| i % NODE_WORDS < START;
-        take_zeros(&mut lent.nodes, (0..NODES_WORDS).filter(corner));
+    match call {
+        Call::Query | Call::DistMat => take_zeros(&mut lent.out, 0..1),
+        Call::Build => {
+            let corner = |i: &usize| i % NODE_WORDS < START;
+            take_zeros(&mut lent.nodes, (0..NODES_WORDS).filter(corner));
+        }
+        _ if call.asks() => call.stray(),
+        _ => {}
     }
 }
 

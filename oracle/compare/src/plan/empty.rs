@@ -122,7 +122,8 @@ fn judged(call: Call) -> &'static [usize] {
 fn nothing_found(call: Call, lent: &Lent, args: &[u32]) -> Result<(), String> {
     let want = match call {
         Call::Query => [args[3], args[4], 0, 0],
-        _ => [f32::MAX.to_bits(), 0, 0, 0],
+        Call::DistMat => [f32::MAX.to_bits(), 0, 0, 0],
+        _ => call.stray(),
     };
     let have = [0, 1, 2, 3].map(|i| lent.out.word(i));
     if have == want {

@@ -76,12 +76,14 @@ pub fn answer(call: Call, lent: &Lent, scene: Option<&Scene>) -> [u32; OUT_WORDS
     let args = words::all(lent.args.bytes());
     let point = vec3(&args);
     let mut out = [0; OUT_WORDS];
-    let hit = if call == Call::Query {
-        let hit = query(scene, point, f32::from_bits(args[3]), args[4]);
-        [out[2], out[3]] = counts(lent, scene, &args, hit);
-        hit
-    } else {
-        scene.dist_mat(point)
+    let hit = match call {
+        Call::Query => {
+            let hit = query(scene, point, f32::from_bits(args[3]), args[4]);
+            [out[2], out[3]] = counts(lent, scene, &args, hit);
+            hit
+        }
+        Call::DistMat => scene.dist_mat(point),
+        _ => call.stray(),
     };
     out[0] = hit.d.to_bits();
     out[1] = hit.mat;
