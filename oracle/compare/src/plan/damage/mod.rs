@@ -55,9 +55,9 @@ pub fn run(damages: usize) -> Result<String, String> {
                 strike::strike(&mut rng, &plan, &mut lent.plan);
             }
             let entry = rng.pick(Call::ENTRIES);
-            let tree = rng.pick(&[Call::Build, Call::Offer]);
+            let tree = rng.pick(Call::TREES);
             // What may be accepted comes last: the tree's call changes the tree, the entry all.
-            for call in [Call::Query, Call::DistMat, tree, entry] {
+            for call in [Call::ASKS, &[tree, entry]].concat() {
                 try_call(&mut rng, &plan, call, &mut lent, &mut sent)?;
             }
         }
