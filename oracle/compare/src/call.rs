@@ -124,8 +124,9 @@ impl Call {
         }
     }
 
-    /// Where calls of other groups only can come.
+    /// Ends the run where nothing is said of the call: it is of another group, or new.
+    #[track_caller]
     pub fn stray(self) -> ! {
-        unreachable!("{} does not belong here", self.name())
+        panic!("{} is not known here", self.name())
     }
 }
