@@ -1,5 +1,6 @@
 //! The comparisons that run with every change: seconds, not minutes.
 
+use crate::progress::through;
 use crate::{plan, scalar, tree};
 use std::time::Instant;
 
@@ -11,15 +12,15 @@ pub fn run() -> Result<(), String> {
 }
 
 /// One of the parts.
-pub fn run_one(whole: &str, parts: &[Part], name: &str) -> Result<(), String> {
+pub fn run_one(whole: &'static str, parts: &[Part], name: &str) -> Result<(), String> {
     let part = parts.iter().find(|part| part.0 == name);
     let part = part.ok_or_else(|| format!("there is no part `{name}`"))?;
     run_parts(whole, &[*part])
 }
 
-pub fn run_parts(whole: &str, parts: &[Part]) -> Result<(), String> {
+pub fn run_parts(whole: &'static str, parts: &[Part]) -> Result<(), String> {
     let start = Instant::now();
-    for (name, part) in parts {
+    for (name, part) in through(whole, parts, "parts") {
         let start = Instant::now();
         let line = part().map_err(|what| format!("{name}: {what}"))?;
         let seconds = start.elapsed().as_secs_f32();

@@ -1,35 +1,40 @@
-//! How far a long run is: a line on stderr now and then.
+//! How far a long run is: a line on stderr now and then, from whatever part of it is at work.
 
 use std::sync::atomic::{AtomicU64, AtomicUsize, Ordering::Relaxed};
+use std::sync::LazyLock;
 use std::time::Instant;
 
 /// Seconds between two lines.
 const EVERY: u64 = 5;
+
+static BEGIN: LazyLock<Instant> = LazyLock::new(Instant::now);
+
+/// When the last line came, in seconds from the beginning.
+static TOLD: AtomicU64 = AtomicU64::new(0);
 
 pub struct Progress {
     run: &'static str,
     things: &'static str,
     of: usize,
     done: AtomicUsize,
-    start: Instant,
-    told: AtomicU64,
+    start: u64,
 }
 
 impl Progress {
     /// A run that goes through so many things.
     pub fn new(run: &'static str, of: usize, things: &'static str) -> Progress {
-        Progress { run, things, of, done: AtomicUsize::new(0), start: Instant::now(), told: AtomicU64::new(0) }
+        Progress { run, things, of, done: AtomicUsize::new(0), start: BEGIN.elapsed().as_secs() }
     }
 
     /// So many more are done, in whatever thread. It looks at the clock, so it is not for each of
     /// many short things.
     pub fn add(&self, more: usize) {
         let done = self.done.fetch_add(more, Relaxed) + more;
-        let (told, now) = (self.told.load(Relaxed), self.start.elapsed().as_secs());
+        let (told, now) = (TOLD.load(Relaxed), BEGIN.elapsed().as_secs());
         let due = now >= told + EVERY;
-        if due && self.told.compare_exchange(told, now, Relaxed, Relaxed).is_ok() {
-            let (done, of) = (grouped(done), grouped(self.of));
-            eprintln!("{}: {done} of {of} {}, {now} s", self.run, self.things);
+        if due && TOLD.compare_exchange(told, now, Relaxed, Relaxed).is_ok() {
+            let (done, of, seconds) = (grouped(done), grouped(self.of), now - self.start);
+            eprintln!("{}: {done} of {of} {}, {seconds} s", self.run, self.things);
         }
     }
 }
