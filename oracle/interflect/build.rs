@@ -44,13 +44,9 @@ fn visible(text: &str) -> String {
     let mut out = String::new();
     let mut in_struct = false;
     for line in text.lines() {
-        let item = ["fn ", "struct ", "const "]
-            .iter()
-            .any(|word| line.starts_with(word));
+        let item = ["fn ", "struct ", "const "].iter().any(|word| line.starts_with(word));
         let field = in_struct
-            && line
-                .strip_prefix("    ")
-                .is_some_and(|l| l.starts_with(|c: char| c.is_ascii_lowercase()))
+            && line.strip_prefix("    ").is_some_and(|l| l.starts_with(|c: char| c.is_ascii_lowercase()))
             && !line.starts_with("    pub ");
         if item {
             out.push_str("pub ");
@@ -73,11 +69,7 @@ fn visible(text: &str) -> String {
 
 fn with_formula(text: &str) -> String {
     let call = "cos_t.acos()";
-    assert_eq!(
-        text.matches(".acos()").count(),
-        1,
-        "ltc.rs has one arc cosine"
-    );
+    assert_eq!(text.matches(".acos()").count(), 1, "ltc.rs has one arc cosine");
     assert!(text.contains(call), "ltc.rs takes the arc cosine of cos_t");
     text.replace(call, "crate::acos::formula(cos_t)")
 }

@@ -1,13 +1,15 @@
-//! The number that each call must send, from document 01 and VIEWER.md alone.
+//! What all judges share: the numbers, the ranges of words, and primitives, from document 01 alone.
 
-use crate::call::{Call, OUT_BYTES};
-use crate::words;
-
+/// Document 01's numbers.
 pub const DONE: u32 = 0;
 pub const BAD_WORD: u32 = 1;
 pub const NO_ROOM: u32 = 2;
+pub const NO_MATERIAL: u32 = 3;
 pub const NO_EXTENT: u32 = 4;
 pub const WRONG_KIND: u32 = 5;
+pub const BAD_TREE: u32 = 6;
+pub const TOO_DEEP: u32 = 7;
+pub const NO_TREE: u32 = 8;
 
 pub const KINDS: u32 = 7;
 pub const PLANE: u32 = 2;
@@ -39,8 +41,6 @@ pub const COORD: Range = magnitude(10_000.0);
 pub const RADIUS: Range = not_negative(10_000.0);
 pub const NORMAL: Range = magnitude(1.5);
 pub const POINT: Range = magnitude(200_000.0);
-pub const ROOT: Range = not_negative(f32::MAX);
-pub const ACOS: Range = magnitude(1.0);
 
 /// The ranges of the words that a kind uses, in the source's order; none for an unknown kind.
 pub fn ranges(kind: u32) -> Option<&'static [Range]> {
@@ -71,32 +71,6 @@ impl Lowest {
     pub fn apply(&mut self, number: u32, when: bool) {
         if when && (self.0 == DONE || number < self.0) {
             self.0 = number;
-        }
-    }
-}
-
-/// The number for `args`, all its bytes, and an `out` of that many bytes.
-pub fn number(call: Call, args: &[u8], out_len: usize) -> u32 {
-    let mut lowest = Lowest::default();
-    let short = args.len() < 4 * call.args_words();
-    lowest.apply(NO_ROOM, short || out_len < OUT_BYTES);
-    if !short {
-        judge_args(call, &words::args(args), &mut lowest);
-    }
-    lowest.number()
-}
-
-fn judge_args(call: Call, args: &[u32], lowest: &mut Lowest) {
-    match call {
-        Call::Root => judge_floats(&args[..1], &[ROOT], lowest),
-        Call::Acos => judge_floats(&args[..1], &[ACOS], lowest),
-        Call::PrimDist => {
-            judge_prim(args[0], &args[1..9], lowest);
-            judge_floats(&args[9..12], &[POINT; 3], lowest);
-        }
-        Call::PrimBounds => {
-            judge_prim(args[0], &args[1..9], lowest);
-            lowest.apply(WRONG_KIND, args[0] == PLANE);
         }
     }
 }

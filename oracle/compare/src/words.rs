@@ -1,7 +1,5 @@
 //! Words in byte slices: four bytes to a word, little-endian, a float as its bits.
 
-use crate::call::MOST_ARGS;
-
 pub fn word(bytes: &[u8], i: usize) -> u32 {
     u32::from_le_bytes(bytes[4 * i..4 * i + 4].try_into().unwrap())
 }
@@ -21,17 +19,14 @@ pub fn all(bytes: &[u8]) -> Vec<u32> {
     (0..bytes.len() / 4).map(|i| word(bytes, i)).collect()
 }
 
-/// The first words of `bytes`, as many as a call can read; 0 where there are none.
-pub fn args(bytes: &[u8]) -> [u32; MOST_ARGS] {
-    let mut words = [0; MOST_ARGS];
-    for (i, place) in words.iter_mut().enumerate().take(bytes.len() / 4) {
-        *place = word(bytes, i);
-    }
-    words
-}
-
 pub fn bits(floats: &[f32]) -> Vec<u32> {
     floats.iter().map(|x| x.to_bits()).collect()
+}
+
+/// Whether words are the same: bit for bit, or else as floats too.
+pub fn same(have: u32, want: u32, by_bits: bool) -> bool {
+    let (h, w) = (f32::from_bits(have), f32::from_bits(want));
+    have == want || (!by_bits && (h == w || (h.is_nan() && w.is_nan())))
 }
 
 /// A word for a message: as bits and as a float.

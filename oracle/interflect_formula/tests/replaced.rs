@@ -2,12 +2,8 @@
 
 use glam::Vec3;
 
-const PANEL: [Vec3; 4] = [
-    Vec3::new(-1.0, -1.0, 2.0),
-    Vec3::new(1.0, -1.0, 2.5),
-    Vec3::new(1.5, 1.0, 2.0),
-    Vec3::new(-1.0, 1.0, 1.5),
-];
+const PANEL: [Vec3; 4] =
+    [Vec3::new(-1.0, -1.0, 2.0), Vec3::new(1.0, -1.0, 2.5), Vec3::new(1.5, 1.0, 2.0), Vec3::new(-1.0, 1.0, 1.5)];
 
 #[test]
 fn form_factors_are_close_and_not_all_equal() {

@@ -1,16 +1,15 @@
 //! Times of calls on a plan. Ours read and test the plan each time that they are made, while the
 //! source has its objects at hand: the lines without the Rust's show what that costs.
 
-use super::call::PlanCall;
 use super::draw::{self, ROOM};
 use super::layout::{List, CUTTERS, OBJECTS};
 use super::lent::Lent;
 use super::model::{Piece, Plan};
-use super::sound;
-use super::source;
-use crate::answer::vec3;
+use super::{sound, source};
 use crate::bench::{alone, pair};
+use crate::call::Call;
 use crate::rng::Rng;
+use crate::source::vec3;
 use crate::viewer;
 
 /// Points of a loop.
@@ -40,31 +39,25 @@ pub fn run() {
     lent.args(&full.objects[last].args(|| 0));
     alone("entry, last object", &points, |_| {
         lent.plan.put(List::Objects as usize, &[last as u32]);
-        viewer::plan::send(PlanCall::AddObject, &mut lent)
+        viewer::lend(Call::AddObject, &mut lent)
     });
 }
 
 /// So many objects in a room, each with so many cutters.
 pub fn plan(rng: &mut Rng, objects: usize, cutters: usize) -> Plan {
     let piece = |_| -> Piece { draw::piece(rng, &ROOM, List::Objects, 4, cutters) };
-    Plan {
-        objects: (0..objects).map(piece).collect(),
-        materials: vec![sound::material(); 4],
-        ..Plan::default()
-    }
+    Plan { objects: (0..objects).map(piece).collect(), materials: vec![sound::material(); 4], ..Plan::default() }
 }
 
 /// The args of queries: a point in the room, no bound.
 pub fn points(rng: &mut Rng) -> Vec<[u32; 5]> {
     let mut coord = || (rng.unit() * 20.0 - 10.0).to_bits();
-    (0..INPUTS)
-        .map(|_| [coord(), coord(), coord(), f32::MAX.to_bits(), 0])
-        .collect()
+    (0..INPUTS).map(|_| [coord(), coord(), coord(), f32::MAX.to_bits(), 0]).collect()
 }
 
 pub fn ask(lent: &mut Lent, args: &[u32; 5]) -> u32 {
     lent.args.put(0, args);
-    viewer::plan::send(PlanCall::Query, lent)
+    viewer::lend(Call::Query, lent)
 }
 
 fn query(name: &str, rng: &mut Rng, plan: &Plan) {

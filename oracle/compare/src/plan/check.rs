@@ -1,29 +1,27 @@
 //! One call on a plan compared whole: the number sent and each byte that was lent or lies about.
 
-use super::call::PlanCall;
-use super::exit;
-use super::judge;
 use super::layout::{NODES_WORDS, NODE_WORDS, SECTIONS};
 use super::lent::{Lent, Table};
-use crate::check::same;
+use super::{exit, judge};
+use crate::call::Call;
 use crate::tree::table::START;
 use crate::viewer;
-use crate::words;
+use crate::words::{self, same};
 use interflect::scene::Scene;
 use std::fmt::Write;
 
 /// Calls our library and compares; gives the number sent, or what differs and on which inputs.
-pub fn check(call: PlanCall, lent: &mut Lent) -> Result<u32, String> {
+pub fn check(call: Call, lent: &mut Lent) -> Result<u32, String> {
     compare(call, lent, None)
 }
 
 /// The same, where the plan's scene is at hand.
-pub fn check_in(scene: &Scene, call: PlanCall, lent: &mut Lent) -> Result<u32, String> {
+pub fn check_in(scene: &Scene, call: Call, lent: &mut Lent) -> Result<u32, String> {
     compare(call, lent, Some(scene))
 }
 
 /// The same, where the number is known beforehand, so that the judge is tested too.
-pub fn expect(call: PlanCall, lent: &mut Lent, number: u32) -> Result<(), String> {
+pub fn expect(call: Call, lent: &mut Lent, number: u32) -> Result<(), String> {
     let judged = judge::number(call, lent);
     if judged != number {
         let what = format!("our judge says {judged}, the case says {number}");
@@ -33,11 +31,11 @@ pub fn expect(call: PlanCall, lent: &mut Lent, number: u32) -> Result<(), String
     check(call, lent).map(|_| ())
 }
 
-fn compare(call: PlanCall, lent: &mut Lent, scene: Option<&Scene>) -> Result<u32, String> {
+fn compare(call: Call, lent: &mut Lent, scene: Option<&Scene>) -> Result<u32, String> {
     lent.out.mark();
     let number = judge::number(call, lent);
     exit::tell(call, number, lent, scene);
-    let sent = viewer::plan::send(call, lent);
+    let sent = viewer::lend(call, lent);
     if sent != number {
         let what = format!("sent {sent}, must send {number}");
         return Err(different(call, lent, &what));
@@ -62,13 +60,15 @@ fn compare(call: PlanCall, lent: &mut Lent, scene: Option<&Scene>) -> Result<u32
 
 /// A distance is compared as a float, and so are the corners of a tree that was built: zeros of
 /// both signs are equal.
-fn as_floats(call: PlanCall, lent: &mut Lent) {
-    if call.asks() {
-        take_zeros(&mut lent.out, 0..1);
-    }
-    if call == PlanCall::Build {
-        let corner = |i: &usize| i % NODE_WORDS < START;
-        take_zeros(&mut lent.nodes, (0..NODES_WORDS).filter(corner));
+fn as_floats(call: Call, lent: &mut Lent) {
+    match call {
+        Call::Query | Call::DistMat => take_zeros(&mut lent.out, 0..1),
+        Call::Build => {
+            let corner = |i: &usize| i % NODE_WORDS < START;
+            take_zeros(&mut lent.nodes, (0..NODES_WORDS).filter(corner));
+        }
+        _ if call.asks() => call.stray(),
+        _ => {}
     }
 }
 
@@ -92,14 +92,8 @@ fn wrong(name: &str, table: &Table) -> Option<String> {
     }
     let i = at as usize / 4;
     let (have, want) = (words::show(table.word(i)), words::show(table.must_word(i)));
-    let place = if name == "plan" {
-        place(i)
-    } else {
-        String::new()
-    };
-    Some(format!(
-        "word {i} of {name}{place} is {have}, must be {want}"
-    ))
+    let place = if name == "plan" { place(i) } else { String::new() };
+    Some(format!("word {i} of {name}{place} is {have}, must be {want}"))
 }
 
 /// Where a word of the plan stands.
@@ -111,14 +105,10 @@ fn place(i: usize) -> String {
     })
 }
 
-fn different(call: PlanCall, lent: &Lent, what: &str) -> String {
+fn different(call: Call, lent: &Lent, what: &str) -> String {
     let lines = [
         format!("{}: {what}", call.name()),
-        format!(
-            "args of {} bytes: {}",
-            lent.args.len(),
-            words::show_all(&lent.args.before())
-        ),
+        format!("args of {} bytes: {}", lent.args.len(), words::show_all(&lent.args.before())),
         format!(
             "out of {} bytes, nodes of {}, order of {}, tree {}",
             lent.out.len(),
@@ -137,20 +127,15 @@ fn different(call: PlanCall, lent: &Lent, what: &str) -> String {
 }
 
 /// The tree that the call reads, in words, without the zeros at its end.
-fn trees(call: PlanCall, lent: &Lent) -> String {
+fn trees(call: Call, lent: &Lent) -> String {
     let (nodes, order) = match call {
-        PlanCall::Offer => (&lent.offered_nodes, &lent.offered_order),
+        Call::Offer => (&lent.offered_nodes, &lent.offered_order),
         _ if call.asks() && lent.tree == 1 => (&lent.nodes, &lent.order),
         _ => return "no tree is read".to_string(),
     };
     let mut text = format!("tree of {} and {} bytes:", nodes.len(), order.len());
     let (nodes, order) = (nodes.before(), order.before());
-    let used = |words: &[u32]| {
-        words
-            .iter()
-            .rposition(|&word| word != 0)
-            .map_or(0, |i| i + 1)
-    };
+    let used = |words: &[u32]| words.iter().rposition(|&word| word != 0).map_or(0, |i| i + 1);
     for (i, node) in nodes[..used(&nodes)].chunks(NODE_WORDS).enumerate() {
         write!(text, "\n    node {i}: {node:08x?}").unwrap();
     }

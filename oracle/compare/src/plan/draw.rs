@@ -4,11 +4,10 @@
 use super::judge::{judge_light, EMISSION, UNIT};
 use super::layout::*;
 use super::model::{Light, Material, Piece, Plan, Prim};
-use crate::draw::{fit, prim_args, within};
-use crate::judge::{
-    self, judge_prim, Lowest, CAPSULE, COORD, DONE, KINDS, NORMAL, PLANE, POINT, RADIUS,
-};
+use crate::draw::{fit, within};
+use crate::judge::{self, judge_prim, Lowest, CAPSULE, COORD, DONE, KINDS, NORMAL, PLANE, POINT, RADIUS};
 use crate::rng::Rng;
+use crate::scalar::draw::prim_args;
 
 /// How pieces lie: about a centre, each so far from it and so large.
 #[derive(Clone, Copy)]
@@ -22,31 +21,17 @@ pub struct Style {
 }
 
 /// Furniture.
-pub const ROOM: Style = Style {
-    centre: [0.0; 3],
-    spread: 10.0,
-    size: 3.0,
-    whole: false,
-    wild: false,
-};
+pub const ROOM: Style = Style { centre: [0.0; 3], spread: 10.0, size: 3.0, whole: false, wild: false };
 
 pub fn style(rng: &mut Rng) -> Style {
     let far = [0; 3].map(|_| within(rng, COORD));
-    let about = |centre, spread, size| Style {
-        centre,
-        spread,
-        size,
-        ..ROOM
-    };
+    let about = |centre, spread, size| Style { centre, spread, size, ..ROOM };
     match rng.below(8) {
         0 => about(far, 1.0, 0.5),
         1 => about(far, 0.0, 5.0),
         2 => about([0.0; 3], 1e-3, 1e-4),
         3 => about([0.0; 3], 10_000.0, 10_000.0),
-        4..=5 => Style {
-            whole: true,
-            ..about([0.0; 3], 4.0, 2.0)
-        },
+        4..=5 => Style { whole: true, ..about([0.0; 3], 4.0, 2.0) },
         6 => Style { wild: true, ..ROOM },
         _ => ROOM,
     }
@@ -66,11 +51,7 @@ impl Style {
 
 pub fn prim(rng: &mut Rng, style: &Style, kind: u32) -> Prim {
     loop {
-        let prim = if style.wild {
-            wild(rng, kind)
-        } else {
-            placed(rng, style, kind)
-        };
+        let prim = if style.wild { wild(rng, kind) } else { placed(rng, style, kind) };
         let mut lowest = Lowest::default();
         judge_prim(kind, &prim.shape, &mut lowest);
         if lowest.number() == DONE {
@@ -128,11 +109,7 @@ fn beside(prim: &Prim, style: &Style) -> Style {
         PLANE => style.centre,
         _ => std::array::from_fn(|i| f32::from_bits(prim.shape[i])),
     };
-    Style {
-        centre,
-        spread: style.size,
-        ..*style
-    }
+    Style { centre, spread: style.size, ..*style }
 }
 
 fn cutter(rng: &mut Rng, style: &Style) -> Prim {
@@ -166,11 +143,7 @@ pub fn light(rng: &mut Rng, style: &Style) -> Light {
 pub fn plan(rng: &mut Rng, objects: usize) -> Plan {
     let styles = [style(rng), style(rng), style(rng)];
     // One style, or now and then a mix of three.
-    let styles = if rng.one_in(4) {
-        &styles[..]
-    } else {
-        &styles[..1]
-    };
+    let styles = if rng.one_in(4) { &styles[..] } else { &styles[..1] };
     let materials = rng.pick(&[1, 2, 5, 63, 64]);
     let most = rng.pick(&[0, 1, 3, 8]);
     let mut left = CUTTERS.records;

@@ -1,14 +1,13 @@
 //! Plans of no objects beside tables that hold anything, and plans that are empty though every
 //! word but the counts holds anything: what is past the counts is not read.
 
-use super::call::PlanCall;
 use super::check::expect;
-use super::draw;
 use super::layout::*;
-use super::lent::{Lent, Table};
+use super::lent::{Lent, Which};
 use super::model::Plan;
-use super::sound;
-use crate::cases::limits::NOT_FINITE;
+use super::{draw, sound};
+use crate::call::Call;
+use crate::chosen::NOT_FINITE;
 use crate::judge::{BAD_WORD, DONE, NO_ROOM};
 use crate::rng::Rng;
 use crate::words;
@@ -20,19 +19,17 @@ pub fn run() -> Result<String, String> {
     let mut count = 0;
     for turn in 0..TURNS {
         for junk_in_the_plan in [false, true] {
-            for call in PlanCall::ALL {
-                for &tree in call.trees() {
-                    let mut lent = lend(&mut rng, turn, junk_in_the_plan);
-                    lent.tree = tree;
-                    count += of_call(&mut rng, call, &mut lent)?;
-                }
+            for (call, tree) in Call::with_trees() {
+                let mut lent = lend(&mut rng, turn, junk_in_the_plan);
+                lent.tree = tree;
+                count += of_call(&mut rng, call, &mut lent)?;
             }
         }
     }
     Ok(format!("{count} calls"))
 }
 
-fn of_call(rng: &mut Rng, call: PlanCall, lent: &mut Lent) -> Result<usize, String> {
+fn of_call(rng: &mut Rng, call: Call, lent: &mut Lent) -> Result<usize, String> {
     if call.asks() && lent.tree == 0 {
         // By the list the tree's tables are not looked at.
         lent.nodes.resize(rng.below(NODES_BYTES + 64));
@@ -56,37 +53,21 @@ fn of_call(rng: &mut Rng, call: PlanCall, lent: &mut Lent) -> Result<usize, Stri
 
 /// The empty tree always stands, and what is offered is not judged; but tables of trees may not be
 /// short.
-fn short_tables(rng: &mut Rng, call: PlanCall, lent: &mut Lent) -> Result<usize, String> {
-    type Pick = fn(&mut Lent) -> &mut Table;
-    let looked_at: [(Pick, usize, bool); 4] = [
-        (
-            |lent| &mut lent.nodes,
-            NODES_BYTES,
-            lent.looks_at_tree(call),
-        ),
-        (
-            |lent| &mut lent.order,
-            ORDER_BYTES,
-            lent.looks_at_tree(call),
-        ),
-        (
-            |lent| &mut lent.offered_nodes,
-            NODES_BYTES,
-            call == PlanCall::Offer,
-        ),
-        (
-            |lent| &mut lent.offered_order,
-            ORDER_BYTES,
-            call == PlanCall::Offer,
-        ),
+fn short_tables(rng: &mut Rng, call: Call, lent: &mut Lent) -> Result<usize, String> {
+    let (tree, offered) = (lent.looks_at_tree(call), call == Call::Offer);
+    let looked_at = [
+        (Which::Nodes, NODES_BYTES, tree),
+        (Which::Order, ORDER_BYTES, tree),
+        (Which::OfferedNodes, NODES_BYTES, offered),
+        (Which::OfferedOrder, ORDER_BYTES, offered),
     ];
     let mut count = 0;
-    for (pick, full, _) in looked_at.into_iter().filter(|table| table.2) {
+    for (table, full, _) in looked_at.into_iter().filter(|table| table.2) {
         let any = rng.below(full);
         let short = rng.pick(&[full - 1, full - 4, any]);
-        pick(lent).resize(short);
+        lent.table(table).resize(short);
         expect(call, lent, NO_ROOM)?;
-        pick(lent).resize(full);
+        lent.table(table).resize(full);
         count += 1;
     }
     Ok(count)
@@ -94,10 +75,7 @@ fn short_tables(rng: &mut Rng, call: PlanCall, lent: &mut Lent) -> Result<usize,
 
 /// One material and nothing else, so that a piece can enter.
 fn lend(rng: &mut Rng, turn: usize, junk_in_the_plan: bool) -> Lent {
-    let plan = Plan {
-        materials: vec![sound::material(); 1],
-        ..Plan::default()
-    };
+    let plan = Plan { materials: vec![sound::material(); 1], ..Plan::default() };
     let mut lent = Lent::new(&plan, turn);
     if junk_in_the_plan {
         let junk: Vec<u32> = (0..PLAN_WORDS - 4).map(|_| rng.word()).collect();
@@ -113,12 +91,12 @@ fn lend(rng: &mut Rng, turn: usize, junk_in_the_plan: bool) -> Lent {
     lent
 }
 
-fn args(rng: &mut Rng, call: PlanCall) -> Vec<u32> {
+fn args(rng: &mut Rng, call: Call) -> Vec<u32> {
     let mut args = sound::args(call);
     if call.asks() {
         args[..3].copy_from_slice(&draw::point(rng, &Plan::default()));
     }
-    if call == PlanCall::Query {
+    if call == Call::Query {
         args[3] = (rng.unit() * 2.0 - 1.0).to_bits();
         args[4] = rng.word();
     }
@@ -129,21 +107,23 @@ fn args(rng: &mut Rng, call: PlanCall) -> Vec<u32> {
 }
 
 /// Words of `args` that may not be infinite.
-fn judged(call: PlanCall) -> &'static [usize] {
+fn judged(call: Call) -> &'static [usize] {
     match call {
-        PlanCall::AddMaterial | PlanCall::AddLight => &[0, 4],
-        PlanCall::AddPlane | PlanCall::AddObject => &[BLEND, SHAPE, ROW + 1],
-        PlanCall::Build | PlanCall::Offer => &[],
-        PlanCall::Query => &[0, 1, 2, 3],
-        PlanCall::DistMat => &[0, 1, 2],
+        Call::AddMaterial | Call::AddLight => &[0, 4],
+        Call::AddPlane | Call::AddObject => &[BLEND, SHAPE, ROW + 1],
+        Call::Build | Call::Offer => &[],
+        Call::Query => &[0, 1, 2, 3],
+        Call::DistMat => &[0, 1, 2],
+        _ => call.stray(),
     }
 }
 
 /// The bound and its word come back, or `f32::MAX` and 0. Nothing is popped or evaluated.
-fn nothing_found(call: PlanCall, lent: &Lent, args: &[u32]) -> Result<(), String> {
+fn nothing_found(call: Call, lent: &Lent, args: &[u32]) -> Result<(), String> {
     let want = match call {
-        PlanCall::Query => [args[3], args[4], 0, 0],
-        _ => [f32::MAX.to_bits(), 0, 0, 0],
+        Call::Query => [args[3], args[4], 0, 0],
+        Call::DistMat => [f32::MAX.to_bits(), 0, 0, 0],
+        _ => call.stray(),
     };
     let have = [0, 1, 2, 3].map(|i| lent.out.word(i));
     if have == want {

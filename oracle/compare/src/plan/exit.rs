@@ -1,33 +1,32 @@
 //! What every byte that was lent must be after a call.
 
-use super::call::PlanCall;
 use super::layout::*;
 use super::lent::{Lent, Table};
 use super::model::used;
 use super::source;
-use crate::call::{OUT_BYTES, OUT_WORDS};
-use crate::judge::DONE;
+use crate::call::{Call, OUT_BYTES, OUT_WORDS};
+use crate::judge::{DONE, TOO_DEEP};
 use crate::tree::judged;
-use crate::tree::rules::{Verdict, TOO_DEEP};
+use crate::tree::rules::Verdict;
 use crate::tree::table::Tables;
 use crate::words;
 use interflect::scene::Scene;
 
 /// Tells the tables what they must hold, given the number that the call must send. The source
 /// answers from `scene` where there is one, else from the plan as it is lent.
-pub fn tell(call: PlanCall, number: u32, lent: &mut Lent, scene: Option<&Scene>) {
+pub fn tell(call: Call, number: u32, lent: &mut Lent, scene: Option<&Scene>) {
     lent.plan.begin();
     lent.out.begin();
     let mut out = [0; OUT_WORDS];
     if number == DONE {
         match (call, call.enters()) {
             (_, Some(list)) => out[0] = enter(list, lent),
-            (PlanCall::Build, _) => out[0] = stand(judged::built(lent), lent),
-            (PlanCall::Offer, _) => out[0] = stand(judged::offered(lent), lent),
+            (Call::Build, _) => out[0] = stand(judged::built(lent), lent),
+            (Call::Offer, _) => out[0] = stand(judged::offered(lent), lent),
             _ => out = source::answer(call, lent, scene),
         }
     }
-    if call == PlanCall::Build && number == TOO_DEEP {
+    if call == Call::Build && number == TOO_DEEP {
         // The one refusal that changes something.
         no_tree(lent);
     }

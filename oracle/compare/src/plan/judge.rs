@@ -1,33 +1,29 @@
 //! The number that each call on a plan must send, from document 01 and VIEWER.md alone.
 
-use super::call::PlanCall;
 use super::layout::*;
 use super::lent::Lent;
-use crate::answer::vec3;
-use crate::call::OUT_BYTES;
+use crate::call::{Call, OUT_BYTES};
 use crate::judge::{
-    judge_floats, judge_prim, magnitude, not_negative, Lowest, Range, BAD_WORD, COORD, DONE,
-    NO_EXTENT, NO_ROOM, PLANE, POINT, RADIUS, WRONG_KIND,
+    judge_floats, judge_prim, magnitude, not_negative, Lowest, Range, BAD_WORD, COORD, DONE, NO_EXTENT, NO_MATERIAL,
+    NO_ROOM, NO_TREE, PLANE, POINT, RADIUS, WRONG_KIND,
 };
+use crate::source::vec3;
 use crate::tree::judged;
-use crate::tree::rules::NO_TREE;
 use crate::words;
-
-pub const NO_MATERIAL: u32 = 3;
 
 pub const UNIT: Range = not_negative(1.0);
 pub const EMISSION: Range = not_negative(10_000.0);
 pub const BOUND: Range = magnitude(f32::MAX);
 
 /// Of all the numbers that apply, from the arguments, the tables and the plan, the lowest.
-pub fn number(call: PlanCall, lent: &Lent) -> u32 {
+pub fn number(call: Call, lent: &Lent) -> u32 {
     let mut lowest = Lowest::default();
     lowest.apply(NO_ROOM, lent.out.len() < OUT_BYTES);
     if lent.looks_at_tree(call) {
         lowest.apply(NO_ROOM, lent.nodes.len() < NODES_BYTES);
         lowest.apply(NO_ROOM, lent.order.len() < ORDER_BYTES);
     }
-    if call == PlanCall::Offer {
+    if call == Call::Offer {
         lowest.apply(NO_ROOM, lent.offered_nodes.len() < NODES_BYTES);
         lowest.apply(NO_ROOM, lent.offered_order.len() < ORDER_BYTES);
     }
@@ -44,10 +40,10 @@ pub fn number(call: PlanCall, lent: &Lent) -> u32 {
     lowest.number()
 }
 
-fn judge_tree(call: PlanCall, lent: &Lent, lowest: &mut Lowest) {
+fn judge_tree(call: Call, lent: &Lent, lowest: &mut Lowest) {
     let number = match call {
-        PlanCall::Build => judged::built(lent).1.number,
-        PlanCall::Offer => judged::offered(lent).1.number,
+        Call::Build => judged::built(lent).1.number,
+        Call::Offer => judged::offered(lent).1.number,
         _ if call.asks() && lent.tree == 1 && !judged::stands(lent) => NO_TREE,
         _ => DONE,
     };
@@ -62,7 +58,7 @@ struct State {
     cutters: i64,
 }
 
-fn judge_plan(call: PlanCall, plan: &[u8], lowest: &mut Lowest) -> Option<State> {
+fn judge_plan(call: Call, plan: &[u8], lowest: &mut Lowest) -> Option<State> {
     // A short table's words are not judged.
     let short = plan.len() < PLAN_BYTES;
     lowest.apply(NO_ROOM, short);
@@ -125,7 +121,7 @@ fn judge_cutter(cutter: &[u32; ROW], lowest: &mut Lowest) {
     judge_prim(cutter[0], &cutter[1..], lowest);
 }
 
-fn judge_args(call: PlanCall, args: &[u8], plan: Option<State>, lowest: &mut Lowest) {
+fn judge_args(call: Call, args: &[u8], plan: Option<State>, lowest: &mut Lowest) {
     if let (Some(list), Some(plan)) = (call.enters(), plan) {
         let full = plan.counts[list as usize] as usize == list.section().records;
         lowest.apply(NO_ROOM, full);
@@ -137,16 +133,17 @@ fn judge_args(call: PlanCall, args: &[u8], plan: Option<State>, lowest: &mut Low
     }
     let words = words::all(args);
     match call {
-        PlanCall::AddMaterial => judge_floats(&words, &[UNIT; MATERIAL_WORDS], lowest),
-        PlanCall::AddLight => judge_light(&words, lowest),
-        PlanCall::Build | PlanCall::Offer => {}
-        PlanCall::AddPlane => judge_piece(&words, List::Planes, plan, lowest),
-        PlanCall::AddObject => judge_piece(&words, List::Objects, plan, lowest),
-        PlanCall::Query => {
+        Call::AddMaterial => judge_floats(&words, &[UNIT; MATERIAL_WORDS], lowest),
+        Call::AddLight => judge_light(&words, lowest),
+        Call::Build | Call::Offer => {}
+        Call::AddPlane => judge_piece(&words, List::Planes, plan, lowest),
+        Call::AddObject => judge_piece(&words, List::Objects, plan, lowest),
+        Call::Query => {
             judge_floats(&words, &[POINT, POINT, POINT, BOUND], lowest);
             // Then any material word.
         }
-        PlanCall::DistMat => judge_floats(&words, &[POINT; 3], lowest),
+        Call::DistMat => judge_floats(&words, &[POINT; 3], lowest),
+        _ => call.stray(),
     }
 }
 

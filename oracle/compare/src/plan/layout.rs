@@ -44,12 +44,7 @@ pub struct Section {
 
 impl Section {
     const fn new(name: &'static str, first: usize, records: usize, words: usize) -> Section {
-        Section {
-            name,
-            first,
-            records,
-            words,
-        }
+        Section { name, first, records, words }
     }
 
     /// The first word of a record.
@@ -71,11 +66,7 @@ pub const SECTIONS: [Section; 6] = [COUNTS, MATERIALS, PLANES, LIGHTS, OBJECTS, 
 const _: () = {
     let mut i = 0;
     while i < SECTIONS.len() {
-        let end = if i + 1 < SECTIONS.len() {
-            SECTIONS[i + 1].first
-        } else {
-            PLAN_WORDS
-        };
+        let end = if i + 1 < SECTIONS.len() { SECTIONS[i + 1].first } else { PLAN_WORDS };
         assert!(SECTIONS[i].at(SECTIONS[i].records) == end);
         i += 1;
     }

@@ -1,28 +1,24 @@
 //! Tables of all lengths about their full size, and longer ones: what a table of that length
 //! gets, whether its words are sound or not, is written out here, apart from the judge.
 
-use super::call::PlanCall;
 use super::check::expect;
 use super::layout::*;
-use super::lent::{Lent, Table};
+use super::lent::{Lent, Which};
 use super::sound;
-use crate::call::OUT_BYTES;
+use crate::call::{Call, OUT_BYTES};
+use crate::chosen::NAN;
 use crate::judge::{BAD_WORD, DONE, NO_ROOM};
-
-const NAN: u32 = 0x7fc0_0000;
 
 /// Bytes past a full size.
 const PAST: usize = 72;
 
 pub fn run() -> Result<String, String> {
     let mut count = 0;
-    for call in PlanCall::ALL {
-        for &tree in call.trees() {
-            for broken in Broken::ALL {
-                let case = Case { call, tree, broken };
-                count += case.whole_tables()?;
-                count += case.args_and_out()?;
-            }
+    for (call, tree) in Call::with_trees() {
+        for broken in Broken::ALL {
+            let case = Case { call, tree, broken };
+            count += case.whole_tables()?;
+            count += case.args_and_out()?;
         }
     }
     Ok(format!("{count} cases"))
@@ -39,17 +35,12 @@ enum Broken {
 }
 
 impl Broken {
-    const ALL: [Broken; 4] = [
-        Broken::Nowhere,
-        Broken::Plan,
-        Broken::Args,
-        Broken::LastCutter,
-    ];
+    const ALL: [Broken; 4] = [Broken::Nowhere, Broken::Plan, Broken::Args, Broken::LastCutter];
 }
 
 #[derive(Clone, Copy)]
 struct Case {
-    call: PlanCall,
+    call: Call,
     tree: u32,
     broken: Broken,
 }
@@ -63,13 +54,6 @@ fn lengths(full: usize) -> Vec<usize> {
     lengths.extend(full - 5..=full + 5);
     lengths.extend([full + 64, full + PAST]);
     lengths
-}
-
-/// A table that may be lent, its full size, and whether the call looks at it at all.
-struct Whole {
-    pick: fn(&mut Lent) -> &mut Table,
-    full: usize,
-    looked_at: bool,
 }
 
 impl Case {
@@ -93,35 +77,28 @@ impl Case {
         self.call.args_words() == ROW
     }
 
-    fn tables(self) -> [Whole; 5] {
-        let whole = |pick, full, looked_at| Whole {
-            pick,
-            full,
-            looked_at,
-        };
-        let written = matches!(
-            self.call,
-            PlanCall::AddObject | PlanCall::Build | PlanCall::Offer
-        );
+    /// Tables that may be lent, their full sizes, and whether the call looks at them at all.
+    fn tables(self) -> [(Which, usize, bool); 5] {
+        let written = matches!(self.call, Call::AddObject | Call::Build | Call::Offer);
         let tree = written || self.tree == 1;
-        let offered = self.call == PlanCall::Offer;
+        let offered = self.call == Call::Offer;
         [
-            whole(|lent| &mut lent.plan, PLAN_BYTES, true),
-            whole(|lent| &mut lent.nodes, NODES_BYTES, tree),
-            whole(|lent| &mut lent.order, ORDER_BYTES, tree),
-            whole(|lent| &mut lent.offered_nodes, NODES_BYTES, offered),
-            whole(|lent| &mut lent.offered_order, ORDER_BYTES, offered),
+            (Which::Plan, PLAN_BYTES, true),
+            (Which::Nodes, NODES_BYTES, tree),
+            (Which::Order, ORDER_BYTES, tree),
+            (Which::OfferedNodes, NODES_BYTES, offered),
+            (Which::OfferedOrder, ORDER_BYTES, offered),
         ]
     }
 
     fn whole_tables(self) -> Result<usize, String> {
         let mut count = 0;
-        for table in self.tables() {
-            for len in lengths(table.full) {
+        for (table, full, looked_at) in self.tables() {
+            for len in lengths(full) {
                 let mut lent = self.lend();
-                (table.pick)(&mut lent).resize(len);
-                let short = table.looked_at && len < table.full;
-                let plan_short = short && table.full == PLAN_BYTES;
+                lent.table(table).resize(len);
+                let short = looked_at && len < full;
+                let plan_short = short && table == Which::Plan;
                 let judged = match self.broken {
                     Broken::Nowhere => false,
                     Broken::Plan => !plan_short && !self.call.tests().is_empty(),

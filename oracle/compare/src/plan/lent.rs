@@ -1,9 +1,8 @@
 //! What a call is lent, beside what it must be after the call.
 
-use super::call::PlanCall;
 use super::layout::*;
 use super::model::Plan;
-use crate::call::OUT_BYTES;
+use crate::call::{Call, OUT_BYTES};
 use crate::tree::make;
 use crate::tree::table::Tables;
 use crate::words;
@@ -25,13 +24,7 @@ impl Table {
     /// A table of a full size of bytes, all of them the mark, `shift` bytes off an alignment.
     fn new(full: usize, shift: usize) -> Table {
         let bytes = vec![MARK; full + 2 * ABOUT];
-        Table {
-            must: bytes.clone(),
-            lent: bytes,
-            first: ABOUT / 2 + shift % 8,
-            len: full,
-            changes: Vec::new(),
-        }
+        Table { must: bytes.clone(), lent: bytes, first: ABOUT / 2 + shift % 8, len: full, changes: Vec::new() }
     }
 
     pub fn len(&self) -> usize {
@@ -128,6 +121,18 @@ impl Table {
     }
 }
 
+/// One of the tables that are lent.
+#[derive(Clone, Copy, PartialEq)]
+pub enum Which {
+    Plan,
+    Nodes,
+    Order,
+    OfferedNodes,
+    OfferedOrder,
+    Args,
+    Out,
+}
+
 pub struct Lent {
     pub plan: Table,
     pub nodes: Table,
@@ -164,6 +169,18 @@ impl Lent {
         lent
     }
 
+    pub fn table(&mut self, which: Which) -> &mut Table {
+        match which {
+            Which::Plan => &mut self.plan,
+            Which::Nodes => &mut self.nodes,
+            Which::Order => &mut self.order,
+            Which::OfferedNodes => &mut self.offered_nodes,
+            Which::OfferedOrder => &mut self.offered_order,
+            Which::Args => &mut self.args,
+            Which::Out => &mut self.out,
+        }
+    }
+
     pub fn stand(&mut self, tree: &Tables) {
         self.nodes.put(0, &tree.nodes);
         self.order.put(0, &tree.order);
@@ -194,7 +211,7 @@ impl Lent {
     }
 
     /// Whether the call looks at `nodes` and `order`.
-    pub fn looks_at_tree(&self, call: PlanCall) -> bool {
+    pub fn looks_at_tree(&self, call: Call) -> bool {
         call.writes_tree() || (call.asks() && self.tree == 1)
     }
 

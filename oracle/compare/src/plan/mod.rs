@@ -3,7 +3,6 @@
 //! and VIEWER.md; `check` makes the call and compares. The other files have the cases.
 
 pub mod bench;
-pub mod call;
 pub mod check;
 mod damage;
 pub mod draw;
@@ -17,14 +16,14 @@ pub mod lent;
 mod limits;
 pub mod model;
 mod pairs;
-pub mod queries;
+pub mod points;
+mod queries;
 pub mod sound;
 pub mod source;
 
-pub use call::PlanCall;
 pub use lent::Lent;
 
-use crate::gate::{run_parts, Part};
+use crate::gate::Part;
 
 /// What `gate` runs of it.
 pub const GATE: [Part; 7] = [
@@ -38,7 +37,7 @@ pub const GATE: [Part; 7] = [
 ];
 
 /// The same at length.
-const LONG: [Part; 8] = [
+pub const LONG: [Part; 8] = [
     ("entries", || entries::run(300)),
     ("limits", limits::run),
     ("refusals", || pairs::run(3)),
@@ -48,14 +47,3 @@ const LONG: [Part; 8] = [
     ("words", damage::every_word),
     ("damage", || damage::run(300_000)),
 ];
-
-pub fn run() -> Result<(), String> {
-    run_parts("plan", &LONG)
-}
-
-/// One part of the long run.
-pub fn run_one(name: &str) -> Result<(), String> {
-    let part = LONG.iter().find(|part| part.0 == name);
-    let part = part.ok_or_else(|| format!("there is no part `{name}`"))?;
-    run_parts("plan", &[*part])
-}

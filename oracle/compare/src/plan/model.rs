@@ -1,8 +1,7 @@
 //! A plan as lists of values, and as the words of its table. Floats stand as their bits.
 
 use super::layout::*;
-use crate::judge;
-use crate::words;
+use crate::{judge, words};
 
 /// A kind and its words, with 0 in those that the kind does not use.
 #[derive(Clone, Copy, Debug, PartialEq)]
@@ -38,10 +37,7 @@ pub fn used(kind: u32) -> usize {
 impl Prim {
     /// Of a known kind; words that it does not use are not looked at.
     pub fn new(kind: u32, shape: &[u32]) -> Prim {
-        let mut prim = Prim {
-            kind,
-            shape: [0; 8],
-        };
+        let mut prim = Prim { kind, shape: [0; 8] };
         prim.shape[..used(kind)].copy_from_slice(&shape[..used(kind)]);
         prim
     }
@@ -51,11 +47,7 @@ impl Prim {
         let mut given = [0; CUTTER_WORDS];
         given[0] = self.kind;
         for (i, word) in given[1..].iter_mut().enumerate() {
-            *word = if i < used(self.kind) {
-                self.shape[i]
-            } else {
-                unread()
-            };
+            *word = if i < used(self.kind) { self.shape[i] } else { unread() };
         }
         given
     }
@@ -122,20 +114,12 @@ impl Plan {
     /// The lists of pieces that are named, from a table in which they are sound; no others.
     pub fn read(table: &[u8], lists: &[List]) -> Plan {
         let pieces = |list: List| -> Vec<Piece> {
-            let count = if lists.contains(&list) {
-                words::word(table, list as usize)
-            } else {
-                0
-            };
+            let count = if lists.contains(&list) { words::word(table, list as usize) } else { 0 };
             let section = list.section();
             let records = (0..count as usize).map(|i| section.at(i));
             records.map(|at| read_piece(table, at)).collect()
         };
-        Plan {
-            planes: pieces(List::Planes),
-            objects: pieces(List::Objects),
-            ..Plan::default()
-        }
+        Plan { planes: pieces(List::Planes), objects: pieces(List::Objects), ..Plan::default() }
     }
 }
 

@@ -1,17 +1,16 @@
 //! Chosen values well inside the domain, of which single words are then changed.
 
-use super::call::PlanCall;
 use super::layout::{List, LIGHT_WORDS};
 use super::model::{Light, Material, Piece, Plan, Prim};
-use crate::cases::limits;
+use crate::call::Call;
+use crate::chosen::shape;
 use crate::judge::PLANE;
+use crate::words;
 
 pub const MATERIAL: [f32; 5] = [0.75, 0.5, 0.25, 0.5, 1.0];
 
 /// A skew panel: no change of one word makes it flat.
-pub const LIGHT: [f32; LIGHT_WORDS] = [
-    0.5, 3.0, 0.25, 2.5, 3.5, -0.5, 3.0, 3.25, 2.0, 0.75, 2.75, 2.5, 1.0, 20.0, 0.5,
-];
+pub const LIGHT: [f32; LIGHT_WORDS] = [0.5, 3.0, 0.25, 2.5, 3.5, -0.5, 3.0, 3.25, 2.0, 0.75, 2.75, 2.5, 1.0, 20.0, 0.5];
 
 pub fn material() -> Material {
     MATERIAL.map(f32::to_bits)
@@ -22,7 +21,7 @@ pub fn light() -> Light {
 }
 
 pub fn prim(kind: u32) -> Prim {
-    Prim::new(kind, &limits::sound(kind)[1..9])
+    Prim::new(kind, &words::bits(shape(kind)))
 }
 
 /// A piece of a kind, less cutters of these kinds.
@@ -46,16 +45,17 @@ pub fn plan() -> Plan {
 }
 
 /// Args that the call accepts on that plan. A piece has two cutters.
-pub fn args(call: PlanCall) -> Vec<u32> {
+pub fn args(call: Call) -> Vec<u32> {
     let point = [1.0, -2.0, 3.5].map(f32::to_bits);
     match call {
-        PlanCall::AddMaterial => material().to_vec(),
-        PlanCall::AddLight => light().to_vec(),
-        PlanCall::AddPlane => piece(PLANE, &[3, 0]).args(|| 0),
-        PlanCall::AddObject => piece(3, &[3, 0]).args(|| 0),
-        PlanCall::Build | PlanCall::Offer => Vec::new(),
-        PlanCall::Query => [&point[..], &[100f32.to_bits(), 77]].concat(),
-        PlanCall::DistMat => point.to_vec(),
+        Call::AddMaterial => material().to_vec(),
+        Call::AddLight => light().to_vec(),
+        Call::AddPlane => piece(PLANE, &[3, 0]).args(|| 0),
+        Call::AddObject => piece(3, &[3, 0]).args(|| 0),
+        Call::Build | Call::Offer => Vec::new(),
+        Call::Query => [&point[..], &[100f32.to_bits(), 77]].concat(),
+        Call::DistMat => point.to_vec(),
+        _ => call.stray(),
     }
 }
 

@@ -1,13 +1,11 @@
 //! The answers of the source itself, by the plain list and by a tree.
 
-use super::call::PlanCall;
 use super::lent::Lent;
 use super::model::{Piece, Plan};
-use crate::answer::{prim, vec3};
-use crate::call::OUT_WORDS;
-use crate::check::same;
+use crate::call::{Call, OUT_WORDS};
+use crate::source::{prim, vec3};
 use crate::tree::judged;
-use crate::words;
+use crate::words::{self, same};
 use glam::Vec3;
 use interflect::bvh::Bvh;
 use interflect::scene::{Camera, DistHit, RenderCfg, Scene};
@@ -17,8 +15,8 @@ use interflect::sdf::Object;
 /// given one.
 pub fn scene(plan: &Plan) -> Scene {
     Scene {
-        objects: plan.objects.iter().map(object).collect(),
-        planes: plan.planes.iter().map(object).collect(),
+        objects: objects(&plan.objects),
+        planes: objects(&plan.planes),
         materials: Vec::new(),
         lights: Vec::new(),
         camera: Camera::default(),
@@ -29,14 +27,14 @@ pub fn scene(plan: &Plan) -> Scene {
     }
 }
 
-pub fn object(piece: &Piece) -> Object {
+pub fn objects(pieces: &[Piece]) -> Vec<Object> {
+    pieces.iter().map(object).collect()
+}
+
+fn object(piece: &Piece) -> Object {
     Object {
         prim: prim(piece.prim.kind, &piece.prim.shape),
-        subtract: piece
-            .cutters
-            .iter()
-            .map(|cutter| prim(cutter.kind, &cutter.shape))
-            .collect(),
+        subtract: piece.cutters.iter().map(|cutter| prim(cutter.kind, &cutter.shape)).collect(),
         mat: piece.material,
         blend: f32::from_bits(piece.blend),
     }
@@ -45,10 +43,7 @@ pub fn object(piece: &Piece) -> Object {
 /// The nearest object that is nearer than the bound, else the bound and the word beside it.
 #[inline]
 pub fn query(scene: &Scene, point: Vec3, bound: f32, material: u32) -> DistHit {
-    let mut best = DistHit {
-        d: bound,
-        mat: material,
-    };
+    let mut best = DistHit { d: bound, mat: material };
     if scene.use_bvh {
         scene.bvh.query(point, &scene.objects, &mut best);
     } else {
@@ -58,7 +53,7 @@ pub fn query(scene: &Scene, point: Vec3, bound: f32, material: u32) -> DistHit {
 }
 
 /// The scene of what is lent to an accepted call that asks.
-fn read(call: PlanCall, lent: &Lent) -> Scene {
+fn read(call: Call, lent: &Lent) -> Scene {
     let mut scene = scene(&Plan::read(lent.plan.bytes(), call.tests()));
     if lent.tree == 1 {
         scene.bvh = judged::for_the_source(lent, &scene.objects);
@@ -68,7 +63,7 @@ fn read(call: PlanCall, lent: &Lent) -> Scene {
 }
 
 /// The `out` of an accepted call that asks.
-pub fn answer(call: PlanCall, lent: &Lent, scene: Option<&Scene>) -> [u32; OUT_WORDS] {
+pub fn answer(call: Call, lent: &Lent, scene: Option<&Scene>) -> [u32; OUT_WORDS] {
     let of_its_own;
     let scene = match scene {
         Some(scene) => scene,
@@ -81,12 +76,14 @@ pub fn answer(call: PlanCall, lent: &Lent, scene: Option<&Scene>) -> [u32; OUT_W
     let args = words::all(lent.args.bytes());
     let point = vec3(&args);
     let mut out = [0; OUT_WORDS];
-    let hit = if call == PlanCall::Query {
-        let hit = query(scene, point, f32::from_bits(args[3]), args[4]);
-        [out[2], out[3]] = counts(lent, scene, &args, hit);
-        hit
-    } else {
-        scene.dist_mat(point)
+    let hit = match call {
+        Call::Query => {
+            let hit = query(scene, point, f32::from_bits(args[3]), args[4]);
+            [out[2], out[3]] = counts(lent, scene, &args, hit);
+            hit
+        }
+        Call::DistMat => scene.dist_mat(point),
+        _ => call.stray(),
     };
     out[0] = hit.d.to_bits();
     out[1] = hit.mat;
@@ -99,10 +96,7 @@ fn counts(lent: &Lent, scene: &Scene, args: &[u32], hit: DistHit) -> [u32; 2] {
     if lent.tree == 0 {
         return [0, scene.objects.len() as u32];
     }
-    let begin = DistHit {
-        d: f32::from_bits(args[3]),
-        mat: args[4],
-    };
+    let begin = DistHit { d: f32::from_bits(args[3]), mat: args[4] };
     let found = judged::found(lent, &scene.objects, vec3(args), begin);
     let alike = same(found.hit.d.to_bits(), hit.d.to_bits(), false);
     assert!(

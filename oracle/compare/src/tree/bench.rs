@@ -3,13 +3,14 @@
 
 use super::make::{self, Form, Slack};
 use super::source::{boxes, build};
-use crate::answer::vec3;
 use crate::bench::{alone, pair};
+use crate::call::Call;
 use crate::plan::bench::{ask, plan, points};
 use crate::plan::layout::{NODES, OBJECTS};
 use crate::plan::model::Plan;
-use crate::plan::{source, Lent, PlanCall};
+use crate::plan::{source, Lent};
 use crate::rng::Rng;
+use crate::source::vec3;
 use crate::viewer;
 use interflect::bvh::Bvh;
 use interflect::scene::Scene;
@@ -20,12 +21,7 @@ pub fn run() {
     let full = room(&mut rng, OBJECTS.records);
     let scene = scene(&full);
     let mut lent = Lent::new(&full, 0);
-    pair(
-        "build, 256 objects",
-        &[(); 8],
-        |_| viewer::plan::send(PlanCall::Build, &mut lent),
-        |_| Bvh::build(&scene.objects),
-    );
+    pair("build, 256 objects", &[(); 8], |_| viewer::lend(Call::Build, &mut lent), |_| Bvh::build(&scene.objects));
     for objects in [4, 16, 64, 256] {
         query(&mut rng, objects);
     }
@@ -72,16 +68,10 @@ fn query(rng: &mut Rng, objects: usize) {
 /// The search alone: the call less one whose bound is below every distance, which pops the root
 /// and ends.
 fn search(lent: &mut Lent, points: &[[u32; 5]], (ours, theirs): (f64, f64)) {
-    let still: Vec<_> = points
-        .iter()
-        .map(|&[x, y, z, _, mat]| [x, y, z, (-1.0e30f32).to_bits(), mat])
-        .collect();
+    let still: Vec<_> = points.iter().map(|&[x, y, z, _, mat]| [x, y, z, (-1.0e30f32).to_bits(), mat]).collect();
     let loaded = alone("    load and test", &still, |args| ask(lent, args));
     let (search, ratio) = (ours - loaded, (ours - loaded) / theirs);
-    println!(
-        "{:<20} {search:>8.2} {theirs:>8.2} {ratio:>7.2}",
-        "    search alone"
-    );
+    println!("{:<20} {search:>8.2} {theirs:>8.2} {ratio:>7.2}", "    search alone");
 }
 
 fn averages(lent: &mut Lent, points: &[[u32; 5]]) -> [f64; 2] {
@@ -104,9 +94,7 @@ fn offers(rng: &mut Rng, full: &Plan, scene: &Scene) {
     let offer = |name: &str, plan: &Plan, tables| {
         let mut lent = Lent::new(plan, 0);
         lent.offer(tables);
-        let time = alone(name, &[(); 32], |_| {
-            viewer::plan::send(PlanCall::Offer, &mut lent)
-        });
+        let time = alone(name, &[(); 32], |_| viewer::lend(Call::Offer, &mut lent));
         (time, lent.out.word(0) as usize)
     };
     let (whole, nodes) = offer("offer, 511 nodes", full, &tree);

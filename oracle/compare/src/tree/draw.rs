@@ -79,9 +79,7 @@ fn in_a_row(rng: &mut Rng, plan: &mut Plan) {
 
 fn few_centres(rng: &mut Rng, plan: &mut Plan) {
     let many = 1 + rng.below(4);
-    let centres: Vec<[f32; 3]> = (0..many)
-        .map(|_| [0; 3].map(|_| within(rng, COORD)))
-        .collect();
+    let centres: Vec<[f32; 3]> = (0..many).map(|_| [0; 3].map(|_| within(rng, COORD))).collect();
     place(plan, |_| rng.pick(&centres));
 }
 

@@ -2,16 +2,16 @@
 //! the one that stands, each with what the rules say of it. The plan is sound, the tables are of
 //! full size.
 
-use super::rules::{judge, Verdict, BAD_TREE};
+use super::rules::{judge, Verdict};
 use super::search::{search, Found};
 use super::shape::shape;
 use super::source;
 use super::table::Tables;
-use crate::judge::DONE;
+use crate::judge::{BAD_TREE, DONE};
 use crate::plan::layout::List;
 use crate::plan::lent::Lent;
 use crate::plan::model::Plan;
-use crate::plan::source::object;
+use crate::plan::source::objects;
 use glam::Vec3;
 use interflect::bvh::Bvh;
 use interflect::scene::DistHit;
@@ -19,7 +19,7 @@ use interflect::sdf::Object;
 
 /// What the source builds. It keeps every rule, but may go too deep.
 pub fn built(lent: &Lent) -> (Tables, Verdict) {
-    let objects = objects(lent);
+    let objects = lent_objects(lent);
     let tables = source::build(&objects);
     let verdict = judge(&tables, &source::boxes(&objects));
     assert_ne!(verdict.number, BAD_TREE, "the source keeps the tree rules");
@@ -28,7 +28,7 @@ pub fn built(lent: &Lent) -> (Tables, Verdict) {
 
 /// What is offered, with zeros past the tree and past the order where it is accepted.
 pub fn offered(lent: &Lent) -> (Tables, Verdict) {
-    let objects = objects(lent);
+    let objects = lent_objects(lent);
     let tables = Tables::read(lent.offered_nodes.bytes(), lent.offered_order.bytes());
     let verdict = judge(&tables, &source::boxes(&objects));
     (tables.cut(verdict.nodes, objects.len()), verdict)
@@ -36,7 +36,7 @@ pub fn offered(lent: &Lent) -> (Tables, Verdict) {
 
 /// Whether the tables that are lent hold a tree of the plan's objects.
 pub fn stands(lent: &Lent) -> bool {
-    let boxes = source::boxes(&objects(lent));
+    let boxes = source::boxes(&lent_objects(lent));
     judge(&standing(lent), &boxes).number == DONE
 }
 
@@ -61,7 +61,6 @@ fn standing(lent: &Lent) -> Tables {
     Tables::read(lent.nodes.bytes(), lent.order.bytes())
 }
 
-fn objects(lent: &Lent) -> Vec<Object> {
-    let plan = Plan::read(lent.plan.bytes(), &[List::Objects]);
-    plan.objects.iter().map(object).collect()
+fn lent_objects(lent: &Lent) -> Vec<Object> {
+    objects(&Plan::read(lent.plan.bytes(), &[List::Objects]).objects)
 }

@@ -3,27 +3,22 @@
 
 use super::make::{self, Form, Lean, Slack};
 use super::rows::powers;
-use super::rules::{BAD_TREE, NO_TREE, TOO_DEEP};
 use super::source::{boxes, build};
 use super::table::{Bounds, Node, Tables, COUNT, RIGHT, START};
-use crate::call::OUT_BYTES;
-use crate::judge::{BAD_WORD, DONE, NO_EXTENT, NO_ROOM, WRONG_KIND};
-use crate::plan::call::PlanCall;
+use crate::call::{Call, OUT_BYTES};
+use crate::chosen::NAN;
+use crate::judge::{BAD_TREE, BAD_WORD, DONE, NO_EXTENT, NO_MATERIAL, NO_ROOM, NO_TREE, TOO_DEEP, WRONG_KIND};
 use crate::plan::check::expect;
-use crate::plan::judge::NO_MATERIAL;
 use crate::plan::layout::*;
 use crate::plan::lent::Lent;
 use crate::plan::model::{Piece, Plan, Prim};
 use crate::plan::sound;
-use crate::plan::source::object;
+use crate::plan::source::objects;
 use crate::rng::Rng;
 use crate::words;
 
 pub fn run() -> Result<String, String> {
-    let mut cases = Cases {
-        count: 0,
-        lent: Lent::new(&Plan::default(), 0),
-    };
+    let mut cases = Cases { count: 0, lent: Lent::new(&Plan::default(), 0) };
     drops(&mut cases)?;
     depths(&mut cases)?;
     full(&mut cases)?;
@@ -45,7 +40,7 @@ impl Cases {
         self.lent = Lent::new(plan, self.count);
     }
 
-    fn hold(&mut self, call: PlanCall, number: u32) -> Result<(), String> {
+    fn hold(&mut self, call: Call, number: u32) -> Result<(), String> {
         self.count += 1;
         self.lent.args(&sound::args(call));
         expect(call, &mut self.lent, number)
@@ -53,7 +48,7 @@ impl Cases {
 
     /// Both calls that ask, by the list and by the tree that stands.
     fn ask(&mut self, by_tree: u32) -> Result<(), String> {
-        for call in PlanCall::ASKS {
+        for &call in Call::ASKS {
             for (tree, number) in [(0, DONE), (1, by_tree), (2, BAD_WORD), (u32::MAX, BAD_WORD)] {
                 self.lent.tree = tree;
                 self.hold(call, number)?;
@@ -66,7 +61,7 @@ impl Cases {
     fn offer(&mut self, tree: &Tables, number: u32) -> Result<(), String> {
         self.lent.any_tree();
         self.lent.offer(tree);
-        self.hold(PlanCall::Offer, number)?;
+        self.hold(Call::Offer, number)?;
         // A refusal has left what stood, an accepted offer stands itself.
         self.ask(DONE)?;
         self.lent.stand(tree);
@@ -76,16 +71,9 @@ impl Cases {
 
 /// Spheres of radius 0 on the x axis.
 fn spheres(xs: &[f32]) -> Plan {
-    let sphere = |&x: &f32| Piece {
-        prim: Prim::new(0, &words::bits(&[x, 0.0, 0.0, 0.0])),
-        blend: 0,
-        ..sound::piece(0, &[])
-    };
-    Plan {
-        materials: vec![sound::material(); 3],
-        objects: xs.iter().map(sphere).collect(),
-        ..Plan::default()
-    }
+    let sphere =
+        |&x: &f32| Piece { prim: Prim::new(0, &words::bits(&[x, 0.0, 0.0, 0.0])), blend: 0, ..sound::piece(0, &[]) };
+    Plan { materials: vec![sound::material(); 3], objects: xs.iter().map(sphere).collect(), ..Plan::default() }
 }
 
 fn in_a_row(count: usize) -> Plan {
@@ -94,47 +82,37 @@ fn in_a_row(count: usize) -> Plan {
 }
 
 fn bounds(plan: &Plan) -> Vec<Bounds> {
-    let objects: Vec<_> = plan.objects.iter().map(object).collect();
-    boxes(&objects)
+    boxes(&objects(&plan.objects))
 }
 
 /// A new object drops the tree; a material, a plane and a light leave it.
 fn drops(cases: &mut Cases) -> Result<(), String> {
     cases.plan(&sound::plan());
     cases.ask(NO_TREE)?;
-    cases.hold(PlanCall::Build, DONE)?;
+    cases.hold(Call::Build, DONE)?;
     cases.ask(DONE)?;
     let former = Tables::read(cases.lent.nodes.bytes(), cases.lent.order.bytes());
-    for call in [
-        PlanCall::AddMaterial,
-        PlanCall::AddPlane,
-        PlanCall::AddLight,
-    ] {
+    for call in [Call::AddMaterial, Call::AddPlane, Call::AddLight] {
         cases.hold(call, DONE)?;
         cases.ask(DONE)?;
     }
-    cases.hold(PlanCall::AddObject, DONE)?;
+    cases.hold(Call::AddObject, DONE)?;
     cases.ask(NO_TREE)?;
     // It was the tree of three objects, and is none of four.
     cases.lent.offer(&former);
-    cases.hold(PlanCall::Offer, BAD_TREE)?;
+    cases.hold(Call::Offer, BAD_TREE)?;
     cases.ask(NO_TREE)?;
-    cases.hold(PlanCall::Build, DONE)?;
+    cases.hold(Call::Build, DONE)?;
     cases.ask(DONE)?;
     // A refused entry leaves the tree.
     cases.lent.args(&sound::piece(2, &[]).args(|| 0));
-    expect(PlanCall::AddObject, &mut cases.lent, WRONG_KIND)?;
+    expect(Call::AddObject, &mut cases.lent, WRONG_KIND)?;
     cases.ask(DONE)
 }
 
 fn chain(plan: &Plan, depth: usize, lean: Lean) -> Tables {
     let mut rng = Rng::new(depth as u64);
-    make::tree(
-        &mut rng,
-        &bounds(plan),
-        Form::Chain(depth, lean),
-        Slack::Ulp,
-    )
+    make::tree(&mut rng, &bounds(plan), Form::Chain(depth, lean), Slack::Ulp)
 }
 
 /// Every depth that 256 objects can have.
@@ -149,7 +127,7 @@ fn depths(cases: &mut Cases) -> Result<(), String> {
                 cases.offer(&tree, number)?;
             } else {
                 cases.lent.offer(&tree);
-                cases.hold(PlanCall::Offer, number)?;
+                cases.hold(Call::Offer, number)?;
             }
         }
     }
@@ -179,22 +157,14 @@ fn overflows(cases: &mut Cases) -> Result<(), String> {
     cases.plan(&plan);
     let wide = make::wide_leaf(2);
     let Bounds { lo, hi } = wide.node(0).bounds;
-    let node = |[start, count, right]: [u32; 3]| Node {
-        bounds: Bounds { lo, hi },
-        start,
-        count,
-        right,
-    };
+    let node = |[start, count, right]: [u32; 3]| Node { bounds: Bounds { lo, hi }, start, count, right };
     let tree = |leaves: [[u32; 3]; 2], right: u32| {
         let nodes = [node([0, 0, right]), node(leaves[0]), node(leaves[1])];
         Tables::new(&nodes, &[0, 1])
     };
     cases.offer(&tree([[0, 1, 0], [1, 1, 0]], 2), DONE)?;
     // Sums that are 2 but for their carry.
-    cases.offer(
-        &tree([[0, 1 << 31, 0], [1 << 31, (1 << 31) + 2, 0]], 2),
-        BAD_TREE,
-    )?;
+    cases.offer(&tree([[0, 1 << 31, 0], [1 << 31, (1 << 31) + 2, 0]], 2), BAD_TREE)?;
     cases.offer(&tree([[0, u32::MAX, 0], [u32::MAX, 3, 0]], 2), BAD_TREE)?;
     cases.offer(&tree([[0, 3, 0], [3, u32::MAX, 0]], 2), BAD_TREE)?;
     for right in [0, 1, 3, 510, 511, 512, 1 << 31, (1 << 31) + 2, u32::MAX] {
@@ -228,7 +198,7 @@ fn zeros(cases: &mut Cases) -> Result<(), String> {
 
 /// Changes of a plan's first object that break it, with what each gets.
 const BROKEN: [(usize, u32, u32); 5] = [
-    (BLEND, 0x7fc0_0000, BAD_WORD),
+    (BLEND, NAN, BAD_WORD),
     (CUTS, 9, NO_ROOM),
     (MATERIAL, 3, NO_MATERIAL),
     (KIND, 3, NO_EXTENT),
@@ -249,7 +219,7 @@ fn deep_builds(cases: &mut Cases) -> Result<(), String> {
         cases.plan(&plan);
         cases.lent.any_tree();
         shorten(&mut cases.lent);
-        cases.hold(PlanCall::Build, NO_ROOM)?;
+        cases.hold(Call::Build, NO_ROOM)?;
     }
     // The first sphere lies at the end of the chain; as another shape it has words of zeros.
     for (word, value, number) in BROKEN {
@@ -258,24 +228,23 @@ fn deep_builds(cases: &mut Cases) -> Result<(), String> {
         cases.plan(&plan);
         cases.lent.any_tree();
         cases.lent.plan.put(OBJECTS.at(0) + word, &[value]);
-        cases.hold(PlanCall::Build, number)?;
-        cases.hold(PlanCall::Offer, number)?;
+        cases.hold(Call::Build, number)?;
+        cases.hold(Call::Offer, number)?;
     }
     cases.plan(&plan);
     cases.lent.any_tree();
     cases.ask(DONE)?;
-    cases.hold(PlanCall::Build, TOO_DEEP)?;
+    cases.hold(Call::Build, TOO_DEEP)?;
     cases.ask(NO_TREE)?;
     // It may still be offered a tree that is not so deep.
-    cases.hold(PlanCall::Offer, DONE)?;
+    cases.hold(Call::Offer, DONE)?;
     cases.ask(DONE)
 }
 
 /// A deep tree that breaks another rule gets 6, and the source's own deep tree 7.
 fn deep_offers(cases: &mut Cases) -> Result<(), String> {
     let plan = spheres(&powers(-26..=41));
-    let objects: Vec<_> = plan.objects.iter().map(object).collect();
-    let deep = build(&objects);
+    let deep = build(&objects(&plan.objects));
     cases.plan(&plan);
     cases.offer(&deep, TOO_DEEP)?;
     let mut broken = deep.clone();
@@ -283,14 +252,14 @@ fn deep_offers(cases: &mut Cases) -> Result<(), String> {
     cases.offer(&broken, BAD_TREE)?;
     for word in 0..NODE_WORDS {
         let mut broken = deep.clone();
-        broken.nodes[word] = 0x7fc0_0000;
+        broken.nodes[word] = NAN;
         cases.offer(&broken, BAD_TREE)?;
     }
     cases.lent.any_tree();
     cases.lent.offer(&deep);
     cases.lent.out.resize(OUT_BYTES - 1);
-    cases.hold(PlanCall::Offer, NO_ROOM)?;
+    cases.hold(Call::Offer, NO_ROOM)?;
     cases.lent.out.resize(OUT_BYTES);
     cases.lent.plan.put(OBJECTS.at(0) + MATERIAL, &[3]);
-    cases.hold(PlanCall::Offer, NO_MATERIAL)
+    cases.hold(Call::Offer, NO_MATERIAL)
 }

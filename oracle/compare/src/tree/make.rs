@@ -36,33 +36,18 @@ pub enum Slack {
 
 /// One leaf that holds any so many objects, in order.
 pub fn wide_leaf(objects: u32) -> Tables {
-    let leaf = Node {
-        bounds: EVERYWHERE,
-        start: 0,
-        count: objects,
-        right: 0,
-    };
+    let leaf = Node { bounds: EVERYWHERE, start: 0, count: objects, right: 0 };
     let order: Vec<u32> = (0..ORDER_WORDS as u32).collect();
     Tables::new(&[leaf], &order)
 }
 
-const EVERYWHERE: Bounds = Bounds {
-    lo: Vec3::splat(f32::MIN),
-    hi: Vec3::splat(f32::MAX),
-};
+const EVERYWHERE: Bounds = Bounds { lo: Vec3::splat(f32::MIN), hi: Vec3::splat(f32::MAX) };
 
 /// A tree of that form over objects with these boxes, in an order of its own.
 pub fn tree(rng: &mut Rng, boxes: &[Bounds], form: Form, slack: Slack) -> Tables {
     let mut order: Vec<u32> = (0..boxes.len() as u32).collect();
     shuffle(rng, &mut order);
-    let mut making = Making {
-        rng,
-        boxes,
-        order: &order,
-        form,
-        slack,
-        nodes: Vec::new(),
-    };
+    let mut making = Making { rng, boxes, order: &order, form, slack, nodes: Vec::new() };
     if !boxes.is_empty() {
         making.grow(0, boxes.len(), 0);
     }
@@ -93,12 +78,7 @@ impl Making<'_> {
     /// Adds the subtree of a part of the order, and gives its box.
     fn grow(&mut self, start: usize, count: usize, depth: usize) -> Bounds {
         let place = self.nodes.len();
-        let mut node = Node {
-            bounds: EVERYWHERE,
-            start: start as u32,
-            count: count as u32,
-            right: 0,
-        };
+        let mut node = Node { bounds: EVERYWHERE, start: start as u32, count: count as u32, right: 0 };
         self.nodes.push(node);
         let mut held: Vec<Bounds> = Vec::new();
         if let Some(left) = self.split(count, depth) {
@@ -140,10 +120,7 @@ impl Making<'_> {
             around.lo = around.lo.min(bounds.lo);
             around.hi = around.hi.max(bounds.hi);
         }
-        Bounds {
-            lo: -self.further(-around.lo),
-            hi: self.further(around.hi),
-        }
+        Bounds { lo: -self.further(-around.lo), hi: self.further(around.hi) }
     }
 
     fn further(&mut self, corner: Vec3) -> Vec3 {

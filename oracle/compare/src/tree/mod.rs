@@ -21,7 +21,7 @@ pub mod table;
 #[cfg(test)]
 mod tests;
 
-use crate::gate::{run_parts, Part};
+use crate::gate::Part;
 
 /// What `gate` runs of it.
 pub const GATE: [Part; 5] = [
@@ -33,20 +33,9 @@ pub const GATE: [Part; 5] = [
 ];
 
 /// The same at length.
-const LONG: [Part; 4] = [
+pub const LONG: [Part; 4] = [
     ("rows", rows::run),
     ("builds", || builds::run(10_000, 100)),
     ("offers", || offers::run(150_000)),
     ("limits", limits::run),
 ];
-
-pub fn run() -> Result<(), String> {
-    run_parts("tree", &LONG)
-}
-
-/// One part of the long run.
-pub fn run_one(name: &str) -> Result<(), String> {
-    let part = LONG.iter().find(|part| part.0 == name);
-    let part = part.ok_or_else(|| format!("there is no part `{name}`"))?;
-    run_parts("tree", &[*part])
-}

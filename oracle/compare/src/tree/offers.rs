@@ -2,18 +2,19 @@
 //! with something changed. The same words then stand, and are asked by.
 
 use super::make::{self, Form, Lean, Slack};
-use super::rules::{judge, BAD_TREE, NO_TREE, TOO_DEEP};
+use super::rules::judge;
 use super::strike::{strike, Does};
 use super::table::{Bounds, Tables};
 use super::{draw, source};
-use crate::judge::DONE;
-use crate::plan::call::PlanCall;
+use crate::call::Call;
+use crate::judge::{BAD_TREE, DONE, NO_TREE, TOO_DEEP};
 use crate::plan::check::{check, expect};
 use crate::plan::draw::point;
 use crate::plan::lent::Lent;
 use crate::plan::model::Plan;
 use crate::plan::sound;
-use crate::plan::source::object;
+use crate::plan::source::objects;
+use crate::progress::through;
 use crate::rng::Rng;
 use interflect::sdf::Object;
 
@@ -33,7 +34,7 @@ struct Tally {
 pub fn run(offers: usize) -> Result<String, String> {
     let mut rng = Rng::new(42);
     let mut tally = Tally::default();
-    for i in 0..offers / OF_A_PLAN {
+    for i in through("offers", 0..offers / OF_A_PLAN, "plans") {
         let plan = draw::plan(&mut rng);
         let mut case = Case::new(plan, i);
         for _ in 0..OF_A_PLAN {
@@ -41,9 +42,7 @@ pub fn run(offers: usize) -> Result<String, String> {
         }
     }
     let [taken, bad, deep] = [DONE, BAD_TREE, TOO_DEEP].map(|n| tally.offered[n as usize]);
-    let Tally {
-        stood, not, known, ..
-    } = tally;
+    let Tally { stood, not, known, .. } = tally;
     let line = format!(
         "{offers} trees offered, {known} of them with a number known beforehand: {taken} taken, \
          {bad} got 6, {deep} got 7; as standing trees {stood} counted, {not} did not"
@@ -63,13 +62,8 @@ struct Case {
 
 impl Case {
     fn new(plan: Plan, shift: usize) -> Case {
-        let objects: Vec<Object> = plan.objects.iter().map(object).collect();
-        Case {
-            boxes: source::boxes(&objects),
-            objects,
-            lent: Lent::new(&plan, shift),
-            plan,
-        }
+        let objects = objects(&plan.objects);
+        Case { boxes: source::boxes(&objects), objects, lent: Lent::new(&plan, shift), plan }
     }
 
     fn offer(&mut self, rng: &mut Rng, tally: &mut Tally) -> Result<(), String> {
@@ -86,35 +80,27 @@ impl Case {
         self.lent.stand(&standing);
         if rng.one_in(4) {
             let junk = rng.word();
-            self.lent
-                .nodes
-                .fill(|i| (i as u32).wrapping_mul(junk) as u8);
+            self.lent.nodes.fill(|i| (i as u32).wrapping_mul(junk) as u8);
         }
         self.lent.offer(&tree);
         if let Some(number) = known {
-            expect(PlanCall::Offer, &mut self.lent, number)?;
+            expect(Call::Offer, &mut self.lent, number)?;
             tally.known += 1;
         }
         // Again, since the same offer on the tree that now stands must end likewise.
-        let sent = check(PlanCall::Offer, &mut self.lent)?;
+        let sent = check(Call::Offer, &mut self.lent)?;
         tally.offered[sent as usize] += 1;
         self.stand(rng, &tree, sent, tally)
     }
 
     /// The words that were offered stand as they are, with what lies past them.
-    fn stand(
-        &mut self,
-        rng: &mut Rng,
-        tree: &Tables,
-        sent: u32,
-        tally: &mut Tally,
-    ) -> Result<(), String> {
+    fn stand(&mut self, rng: &mut Rng, tree: &Tables, sent: u32, tally: &mut Tally) -> Result<(), String> {
         self.lent.stand(tree);
         self.lent.tree = 1;
-        let call = rng.pick(&PlanCall::ASKS);
+        let call = rng.pick(Call::ASKS);
         let mut args = sound::args(call);
         args[..3].copy_from_slice(&point(rng, &self.plan));
-        if call == PlanCall::Query {
+        if call == Call::Query {
             args[3] = rng.pick(&[f32::MAX, 1.0, 0.0, -f32::MAX]).to_bits();
         }
         self.lent.args(&args);

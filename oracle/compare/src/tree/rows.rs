@@ -1,10 +1,9 @@
 //! Document 01's rows R1, R2 and R3, through the calls: objects enter, then the tree is built.
 
-use super::rules::TOO_DEEP;
 use super::source::tables;
 use super::table::{Bounds, Node, Tables};
-use crate::judge::DONE;
-use crate::plan::call::PlanCall;
+use crate::call::Call;
+use crate::judge::{DONE, TOO_DEEP};
 use crate::plan::check::expect;
 use crate::plan::layout::{NODES_WORDS, ORDER_WORDS};
 use crate::plan::lent::Lent;
@@ -17,11 +16,7 @@ use std::ops::RangeInclusive;
 
 pub fn run() -> Result<String, String> {
     let at = |xs: &[f32]| -> Vec<f32> { xs.to_vec() };
-    let r1 = [
-        node(0.0, 4.0, [0, 0, 2]),
-        node(0.0, 3.0, [0, 4, 0]),
-        node(4.0, 4.0, [4, 1, 0]),
-    ];
+    let r1 = [node(0.0, 4.0, [0, 0, 2]), node(0.0, 3.0, [0, 4, 0]), node(4.0, 4.0, [4, 1, 0])];
     let in_order: Vec<u32> = (0..5).collect();
     let r1_tables = Tables::new(&r1, &in_order);
     must_build("R1", &at(&[0.0, 1.0, 2.0, 3.0, 4.0]), 3, &r1_tables)?;
@@ -32,55 +27,41 @@ pub fn run() -> Result<String, String> {
     }
 
     let chain = powers(-25..=41);
-    let theirs = Bvh::build(&source::scene(&plan(&chain)).objects);
+    let theirs = Bvh::build(&source::scene(&spheres(&chain)).objects);
     let nodes = theirs.node_count() as u32;
     must_build("R3", &chain, nodes, &tables(&theirs))?;
     let lent = built(&powers(-26..=41), TOO_DEEP)?;
     let none = Tables::new(&[], &[]);
     same_tables("R3", &lent, &none)?;
-    Ok(format!(
-        "R1, R2, R3 (67 objects in {nodes} nodes, 68 get 7)"
-    ))
+    Ok(format!("R1, R2, R3 (67 objects in {nodes} nodes, 68 get 7)"))
 }
 
 fn node(from: f32, to: f32, [start, count, right]: [u32; 3]) -> Node {
-    Node {
-        bounds: Bounds {
-            lo: Vec3::new(from, 0.0, 0.0),
-            hi: Vec3::new(to, 0.0, 0.0),
-        },
-        start,
-        count,
-        right,
-    }
+    Node { bounds: Bounds { lo: Vec3::new(from, 0.0, 0.0), hi: Vec3::new(to, 0.0, 0.0) }, start, count, right }
 }
 
 /// Enters such spheres, and builds.
 fn built(xs: &[f32], number: u32) -> Result<Lent, String> {
     let mut lent = Lent::new(&Plan::default(), 3);
     lent.args(&sound::material());
-    expect(PlanCall::AddMaterial, &mut lent, DONE)?;
-    for sphere in plan(xs).objects {
+    expect(Call::AddMaterial, &mut lent, DONE)?;
+    for sphere in spheres(xs).objects {
         lent.args(&sphere.args(|| 0));
-        expect(PlanCall::AddObject, &mut lent, DONE)?;
+        expect(Call::AddObject, &mut lent, DONE)?;
     }
-    expect(PlanCall::Build, &mut lent, number)?;
+    expect(Call::Build, &mut lent, number)?;
     Ok(lent)
 }
 
 /// Spheres of radius 0 and no blend at these places of the x axis.
-pub fn plan(xs: &[f32]) -> Plan {
+pub fn spheres(xs: &[f32]) -> Plan {
     let sphere = |&x: &f32| Piece {
         material: 0,
         blend: 0,
         prim: Prim::new(0, &words::bits(&[x, 0.0, 0.0, 0.0])),
         cutters: Vec::new(),
     };
-    Plan {
-        objects: xs.iter().map(sphere).collect(),
-        materials: vec![sound::material()],
-        ..Plan::default()
-    }
+    Plan { objects: xs.iter().map(sphere).collect(), materials: vec![sound::material()], ..Plan::default() }
 }
 
 fn must_build(row: &str, xs: &[f32], nodes: u32, tables: &Tables) -> Result<(), String> {

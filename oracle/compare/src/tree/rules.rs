@@ -2,12 +2,8 @@
 
 use super::shape::{shape, Placed};
 use super::table::{Bounds, Tables};
-use crate::judge::DONE;
+use crate::judge::{BAD_TREE, DONE, TOO_DEEP};
 use glam::Vec3;
-
-pub const BAD_TREE: u32 = 6;
-pub const TOO_DEEP: u32 = 7;
-pub const NO_TREE: u32 = 8;
 
 /// No node is deeper.
 pub const DEEPEST: usize = 63;
@@ -22,15 +18,9 @@ pub struct Verdict {
 
 /// Judges tables as the tree of objects with these boxes.
 pub fn judge(tables: &Tables, boxes: &[Bounds]) -> Verdict {
-    let bad = Verdict {
-        number: BAD_TREE,
-        nodes: 0,
-    };
+    let bad = Verdict { number: BAD_TREE, nodes: 0 };
     if boxes.is_empty() {
-        return Verdict {
-            number: DONE,
-            nodes: 0,
-        };
+        return Verdict { number: DONE, nodes: 0 };
     }
     let Some(tree) = shape(tables) else {
         return bad;
@@ -46,10 +36,7 @@ pub fn judge(tables: &Tables, boxes: &[Bounds]) -> Verdict {
         return bad;
     }
     let deep = tree.iter().any(|placed| placed.depth > DEEPEST);
-    Verdict {
-        number: if deep { TOO_DEEP } else { DONE },
-        nodes: tree.len(),
-    }
+    Verdict { number: if deep { TOO_DEEP } else { DONE }, nodes: tree.len() }
 }
 
 /// An interior node has start 0, its left child at the next place and `right` at the first place
@@ -84,9 +71,7 @@ fn each_once(order: &[u32]) -> bool {
 fn corners(tree: &[Placed]) -> bool {
     let finite = |v: Vec3| (0..3).all(|i| v[i].is_finite());
     let bounds = |placed: &Placed| placed.node.bounds;
-    tree.iter()
-        .map(bounds)
-        .all(|bounds| finite(bounds.lo) && finite(bounds.hi))
+    tree.iter().map(bounds).all(|bounds| finite(bounds.lo) && finite(bounds.hi))
 }
 
 fn children_within(tree: &[Placed]) -> bool {

@@ -15,18 +15,8 @@ pub struct Found {
 }
 
 /// Goes down the tree from a hit that is already there.
-pub fn search(
-    tree: &[Placed],
-    order: &[u32],
-    objects: &[Object],
-    point: Vec3,
-    hit: DistHit,
-) -> Found {
-    let mut found = Found {
-        hit,
-        popped: 0,
-        evaluated: 0,
-    };
+pub fn search(tree: &[Placed], order: &[u32], objects: &[Object], point: Vec3, hit: DistHit) -> Found {
+    let mut found = Found { hit, popped: 0, evaluated: 0 };
     // With no objects there is no root to begin with.
     let mut waiting: Vec<usize> = if objects.is_empty() { vec![] } else { vec![0] };
     let from = |bounds: Bounds| aabb_dist(point, bounds.lo, bounds.hi);
@@ -40,11 +30,7 @@ pub fn search(
             let far = [left, right].map(|child| from(tree[child].node.bounds));
             // The farther child first, the left one when equal.
             let right_first = far[1] > far[0];
-            waiting.extend(if right_first {
-                [right, left]
-            } else {
-                [left, right]
-            });
+            waiting.extend(if right_first { [right, left] } else { [left, right] });
         } else {
             let part = &order[node.start as usize..][..node.count as usize];
             for &object in part {

@@ -36,11 +36,7 @@ pub fn shape(tables: &Tables) -> Option<Vec<Placed>> {
         if node.count == 0 {
             waiting.extend([Some(place); 2]);
         }
-        placed.push(Placed {
-            node,
-            depth,
-            children: Vec::new(),
-        });
+        placed.push(Placed { node, depth, children: Vec::new() });
     }
     Some(placed)
 }

@@ -10,10 +10,7 @@ pub fn boxes(objects: &[Object]) -> Vec<Bounds> {
     let widened = |object: &Object| {
         let (lo, hi) = object.prim.bounds().expect("an object is no plane");
         let blend = Vec3::splat(object.blend);
-        Bounds {
-            lo: lo - blend,
-            hi: hi + blend,
-        }
+        Bounds { lo: lo - blend, hi: hi + blend }
     };
     objects.iter().map(widened).collect()
 }
@@ -24,10 +21,7 @@ pub fn build(objects: &[Object]) -> Tables {
 
 pub fn tables(tree: &Bvh) -> Tables {
     let node = |node: &bvh::Node| Node {
-        bounds: Bounds {
-            lo: node.lo,
-            hi: node.hi,
-        },
+        bounds: Bounds { lo: node.lo, hi: node.hi },
         start: node.start,
         count: node.count,
         right: node.right,
@@ -40,17 +34,7 @@ pub fn tables(tree: &Bvh) -> Tables {
 pub fn tree(tables: &Tables, nodes: usize, objects: usize) -> Bvh {
     let node = |place: usize| {
         let node = tables.node(place);
-        bvh::Node {
-            lo: node.bounds.lo,
-            hi: node.bounds.hi,
-            start: node.start,
-            count: node.count,
-            right: node.right,
-        }
+        bvh::Node { lo: node.bounds.lo, hi: node.bounds.hi, start: node.start, count: node.count, right: node.right }
     };
-    Bvh {
-        nodes: (0..nodes).map(node).collect(),
-        order: tables.order[..objects].to_vec(),
-        empty: objects == 0,
-    }
+    Bvh { nodes: (0..nodes).map(node).collect(), order: tables.order[..objects].to_vec(), empty: objects == 0 }
 }

@@ -2,7 +2,7 @@
 
 use super::shape::{shape, Placed};
 use super::table::{Bounds, Tables, COUNT, HI, LO, RIGHT, START};
-use crate::cases::limits::NOT_FINITE;
+use crate::chosen::NOT_FINITE;
 use crate::plan::layout::{NODES_WORDS, NODE_WORDS, ORDER_WORDS};
 use crate::rng::Rng;
 
@@ -44,11 +44,7 @@ const STRIKES: [Strike; 14] = [
 pub fn strike(rng: &mut Rng, tables: &mut Tables, boxes: &[Bounds]) -> Does {
     let tree = shape(tables).expect("a good tree is struck");
     let strike = rng.pick(&STRIKES);
-    let mut struck = Struck {
-        tables,
-        tree,
-        boxes,
-    };
+    let mut struck = Struck { tables, tree, boxes };
     strike(&mut struck, rng)
 }
 
@@ -134,11 +130,7 @@ fn count_off(struck: &mut Struck, rng: &mut Rng) -> Does {
     let place = struck.place(rng);
     let leaf = struck.tree[place].leaf();
     let count = struck.word(place, COUNT);
-    *count = if !leaf || rng.one_in(2) {
-        *count + 1
-    } else {
-        *count - 1
-    };
+    *count = if !leaf || rng.one_in(2) { *count + 1 } else { *count - 1 };
     Does::Breaks
 }
 
@@ -186,10 +178,7 @@ fn absent(struck: &mut Struck, rng: &mut Rng) -> Does {
 
 fn swapped(struck: &mut Struck, rng: &mut Rng) -> Does {
     let objects = struck.boxes.len();
-    struck
-        .tables
-        .order
-        .swap(rng.below(objects), rng.below(objects));
+    struck.tables.order.swap(rng.below(objects), rng.below(objects));
     Does::Unknown
 }
 
@@ -234,9 +223,7 @@ fn to_leaf(struck: &mut Struck, rng: &mut Rng) -> Does {
     }
     let end = struck.end_of_subtree(place);
     let leaves = struck.tree[place..end].iter().filter(|node| node.leaf());
-    let leaves: Vec<(u32, u32)> = leaves
-        .map(|placed| (placed.node.start, placed.node.count))
-        .collect();
+    let leaves: Vec<(u32, u32)> = leaves.map(|placed| (placed.node.start, placed.node.count)).collect();
     *struck.word(place, START) = leaves[0].0;
     *struck.word(place, COUNT) = leaves.iter().map(|leaf| leaf.1).sum();
     *struck.word(place, RIGHT) = 0;

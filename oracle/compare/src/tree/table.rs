@@ -1,7 +1,7 @@
 //! A tree as the words of its two tables, and its nodes one by one.
 
-use crate::answer::vec3;
 use crate::plan::layout::{NODES, NODES_WORDS, NODE_WORDS, ORDER_WORDS};
+use crate::source::vec3;
 use crate::words;
 use glam::Vec3;
 
@@ -50,10 +50,7 @@ impl Node {
 impl Tables {
     /// Zero words follow the nodes and the order.
     pub fn new(nodes: &[Node], order: &[u32]) -> Tables {
-        let mut tables = Tables {
-            nodes: nodes.iter().flat_map(Node::words).collect(),
-            order: order.to_vec(),
-        };
+        let mut tables = Tables { nodes: nodes.iter().flat_map(Node::words).collect(), order: order.to_vec() };
         assert!(nodes.len() <= NODES && order.len() <= ORDER_WORDS);
         tables.nodes.resize(NODES_WORDS, 0);
         tables.order.resize(ORDER_WORDS, 0);
@@ -62,20 +59,14 @@ impl Tables {
 
     /// From lent tables that are of full size or longer.
     pub fn read(nodes: &[u8], order: &[u8]) -> Tables {
-        Tables {
-            nodes: words::all(&nodes[..4 * NODES_WORDS]),
-            order: words::all(&order[..4 * ORDER_WORDS]),
-        }
+        Tables { nodes: words::all(&nodes[..4 * NODES_WORDS]), order: words::all(&order[..4 * ORDER_WORDS]) }
     }
 
     pub fn node(&self, place: usize) -> Node {
         let words = &self.nodes[place * NODE_WORDS..][..NODE_WORDS];
         let corner = |at: usize| vec3(&words[at..]);
         Node {
-            bounds: Bounds {
-                lo: corner(LO),
-                hi: corner(HI),
-            },
+            bounds: Bounds { lo: corner(LO), hi: corner(HI) },
             start: words[START],
             count: words[COUNT],
             right: words[RIGHT],

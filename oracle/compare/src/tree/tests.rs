@@ -2,26 +2,33 @@
 //! rules, what it finds the judge's search finds, and changes do what they plainly must.
 
 use super::make::{self, Form, Lean, Slack};
-use super::rows::powers;
-use super::rules::{judge, BAD_TREE, DEEPEST, TOO_DEEP};
+use super::rows::{powers, spheres};
+use super::rules::{judge, DEEPEST};
 use super::search::search;
 use super::shape::shape;
 use super::strike::{strike, Does};
-use super::table::Tables;
+use super::table::{Bounds, Tables};
 use super::{draw, source};
-use crate::answer::{prim, vec3};
-use crate::judge::DONE;
+use crate::judge::{BAD_TREE, DONE, TOO_DEEP};
 use crate::plan::draw::point;
-use crate::plan::queries::bound;
-use crate::plan::source::object;
+use crate::plan::model::Plan;
+use crate::plan::points::bound;
+use crate::plan::source::objects;
 use crate::rng::Rng;
-use crate::words;
+use crate::source::vec3;
 use interflect::bvh::Bvh;
 use interflect::scene::DistHit;
 use interflect::sdf::Object;
 
 const PLANS: usize = 300;
 const POINTS: usize = 30;
+
+fn drawn(rng: &mut Rng) -> (Plan, Vec<Object>, Vec<Bounds>) {
+    let plan = draw::plan(rng);
+    let objects = objects(&plan.objects);
+    let boxes = source::boxes(&objects);
+    (plan, objects, boxes)
+}
 
 /// The depth of the source's tree, by its own links.
 fn depth(tree: &Bvh, place: usize) -> usize {
@@ -36,10 +43,9 @@ fn depth(tree: &Bvh, place: usize) -> usize {
 fn the_source_keeps_the_rules() {
     let mut rng = Rng::new(51);
     for _ in 0..PLANS {
-        let plan = draw::plan(&mut rng);
-        let objects: Vec<Object> = plan.objects.iter().map(object).collect();
+        let (_, objects, boxes) = drawn(&mut rng);
         let tree = Bvh::build(&objects);
-        let verdict = judge(&source::tables(&tree), &source::boxes(&objects));
+        let verdict = judge(&source::tables(&tree), &boxes);
         let deep = !objects.is_empty() && depth(&tree, 0) > DEEPEST;
         assert_eq!(verdict.number, if deep { TOO_DEEP } else { DONE });
         assert_eq!(verdict.nodes, tree.node_count());
@@ -50,9 +56,7 @@ fn the_source_keeps_the_rules() {
 fn the_source_finds_the_same() {
     let mut rng = Rng::new(52);
     for i in 0..PLANS {
-        let plan = draw::plan(&mut rng);
-        let objects: Vec<Object> = plan.objects.iter().map(object).collect();
-        let boxes = source::boxes(&objects);
+        let (plan, objects, boxes) = drawn(&mut rng);
         let mut tables = source::build(&objects);
         if i % 2 == 1 {
             tables = make::tree(&mut rng, &boxes, Form::Random(6), Slack::Some(2.0));
@@ -64,10 +68,7 @@ fn the_source_finds_the_same() {
         let theirs = source::tree(&tables, verdict.nodes, objects.len());
         for _ in 0..POINTS {
             let point = vec3(&point(&mut rng, &plan));
-            let begin = DistHit {
-                d: bound(&mut rng, objects[0].dist(point)),
-                mat: rng.word(),
-            };
+            let begin = DistHit { d: bound(&mut rng, objects[0].dist(point)), mat: rng.word() };
             let mut best = begin;
             theirs.query(point, &objects, &mut best);
             let tree = shape(&tables).unwrap();
@@ -85,9 +86,7 @@ fn changes_do_what_they_must() {
     let mut rng = Rng::new(53);
     let mut broke = 0;
     for _ in 0..PLANS {
-        let plan = draw::plan(&mut rng);
-        let objects: Vec<Object> = plan.objects.iter().map(object).collect();
-        let boxes = source::boxes(&objects);
+        let (_, objects, boxes) = drawn(&mut rng);
         for _ in 0..if objects.is_empty() { 0 } else { POINTS } {
             let good = make::tree(&mut rng, &boxes, Form::Random(4), Slack::Ulp);
             let before = judge(&good, &boxes);
@@ -108,7 +107,7 @@ fn changes_do_what_they_must() {
 #[test]
 fn chains_are_as_deep_as_they_are_made() {
     let mut rng = Rng::new(54);
-    let objects = spheres(&[1.0; 256]);
+    let objects = objects(&spheres(&[1.0; 256]).objects);
     let boxes = source::boxes(&objects);
     for depth in 0..256 {
         for lean in [Lean::Left, Lean::Right, Lean::Both] {
@@ -123,7 +122,7 @@ fn chains_are_as_deep_as_they_are_made() {
 #[test]
 fn row_three() {
     for (from, number) in [(-25, DONE), (-26, TOO_DEEP)] {
-        let objects = spheres(&powers(from..=41));
+        let objects = objects(&spheres(&powers(from..=41)).objects);
         let verdict = judge(&source::build(&objects), &source::boxes(&objects));
         assert_eq!(verdict.number, number);
     }
@@ -135,15 +134,4 @@ fn no_objects_no_tree() {
     junk.nodes.fill(u32::MAX);
     let verdict = judge(&junk, &[]);
     assert_eq!((verdict.number, verdict.nodes), (DONE, 0));
-}
-
-/// Of radius 0, on the x axis.
-fn spheres(xs: &[f32]) -> Vec<Object> {
-    let sphere = |&x: &f32| Object {
-        prim: prim(0, &words::bits(&[x, 0.0, 0.0, 0.0, 0.0, 0.0])),
-        subtract: Vec::new(),
-        mat: 0,
-        blend: 0.0,
-    };
-    xs.iter().map(sphere).collect()
 }

@@ -3,14 +3,14 @@
 
 mod strike;
 
-use super::call::PlanCall;
 use super::check::check;
-use super::draw;
 use super::layout::*;
 use super::lent::Lent;
 use super::model::{cutters_of, used, Plan};
-use super::sound;
-use crate::cases::limits::NOT_FINITE;
+use super::{draw, sound};
+use crate::call::Call;
+use crate::chosen::NAN;
+use crate::progress::through;
 use crate::rng::Rng;
 
 /// Damages of one plan before the next is drawn.
@@ -21,7 +21,7 @@ const LEAST: usize = 400;
 
 /// How often each call sent each number, 0 to 8.
 #[derive(Default)]
-struct Sent([[usize; 9]; PlanCall::ALL.len()]);
+struct Sent([[usize; 9]; Call::ALL.len()]);
 
 impl Sent {
     fn in_all(&self, number: usize) -> usize {
@@ -29,18 +29,18 @@ impl Sent {
     }
 
     fn lines(&self) -> String {
-        let lines = PlanCall::ALL.map(|call| {
+        let line = |call: Call| {
             let of_call = self.0[call as usize];
             format!("\n    {}: {of_call:?}", call.name())
-        });
-        lines.concat()
+        };
+        Call::on_plans().map(line).collect()
     }
 }
 
 pub fn run(damages: usize) -> Result<String, String> {
     let mut rng = Rng::new(23);
     let mut sent = Sent::default();
-    for i in 0..damages / OF_A_PLAN {
+    for i in through("damage", 0..damages / OF_A_PLAN, "plans") {
         let objects = draw::objects(&mut rng);
         let plan = draw::plan(&mut rng, objects);
         // The tree is right for any objects, as long as they are as many.
@@ -54,10 +54,10 @@ pub fn run(damages: usize) -> Result<String, String> {
             while rng.one_in(5) {
                 strike::strike(&mut rng, &plan, &mut lent.plan);
             }
-            let entry = rng.pick(&PlanCall::ENTRIES);
-            let tree = rng.pick(&[PlanCall::Build, PlanCall::Offer]);
+            let entry = rng.pick(Call::ENTRIES);
+            let tree = rng.pick(Call::TREES);
             // What may be accepted comes last: the tree's call changes the tree, the entry all.
-            for call in [PlanCall::Query, PlanCall::DistMat, tree, entry] {
+            for call in [Call::ASKS, &[tree, entry]].concat() {
                 try_call(&mut rng, &plan, call, &mut lent, &mut sent)?;
             }
         }
@@ -68,9 +68,7 @@ pub fn run(damages: usize) -> Result<String, String> {
         return Err(format!("badly drawn: of each number {in_all:?}"));
     }
     let lines = sent.lines();
-    Ok(format!(
-        "{damages} plans; of each number, 0 to 8, {in_all:?}{lines}"
-    ))
+    Ok(format!("{damages} plans; of each number, 0 to 8, {in_all:?}{lines}"))
 }
 
 /// Each word of one plan in turn, made no number: those that are read and no others are seen.
@@ -88,32 +86,28 @@ pub fn every_word() -> Result<String, String> {
     let mut good = Lent::new(&plan, 0);
     good.any_tree();
     let mut lent = Lent::new(&plan, 0);
-    for i in 0..PLAN_WORDS {
-        for call in PlanCall::ALL {
+    for i in through("words", 0..PLAN_WORDS, "words") {
+        for call in Call::on_plans() {
             lent.copy(&good);
             lent.tree = (i % 2) as u32;
-            lent.plan.put(i, &NOT_FINITE[2..3]);
+            lent.plan.put(i, &[NAN]);
             try_call(&mut rng, &plan, call, &mut lent, &mut sent)?;
         }
     }
-    for call in PlanCall::ALL {
+    for call in Call::on_plans() {
         let (have, want) = (sent.0[call as usize], read_words(&plan, call));
         if have[1..6] != want || have[6..] != [0; 3] {
             let name = call.name();
-            return Err(format!(
-                "{name}: {have:?} numbers, of 1 to 5 must be {want:?}"
-            ));
+            return Err(format!("{name}: {have:?} numbers, of 1 to 5 must be {want:?}"));
         }
     }
     let lines = sent.lines();
-    Ok(format!(
-        "{PLAN_WORDS} in turn; of each number, 0 to 8{lines}"
-    ))
+    Ok(format!("{PLAN_WORDS} in turn; of each number, 0 to 8{lines}"))
 }
 
 /// How many words of a plan a call reads, by the number that they get when they are no number:
 /// apart from the judge.
-fn read_words(plan: &Plan, call: PlanCall) -> [usize; 5] {
+fn read_words(plan: &Plan, call: Call) -> [usize; 5] {
     let mut read = [0, 4, 0, 0, 0];
     for &list in call.tests() {
         let pieces = match list {
@@ -131,17 +125,11 @@ fn read_words(plan: &Plan, call: PlanCall) -> [usize; 5] {
     read
 }
 
-fn try_call(
-    rng: &mut Rng,
-    plan: &Plan,
-    call: PlanCall,
-    lent: &mut Lent,
-    sent: &mut Sent,
-) -> Result<(), String> {
+fn try_call(rng: &mut Rng, plan: &Plan, call: Call, lent: &mut Lent, sent: &mut Sent) -> Result<(), String> {
     let mut args = sound::args(call);
     if call.asks() {
         args[..3].copy_from_slice(&draw::point(rng, plan));
-        if call == PlanCall::Query {
+        if call == Call::Query {
             args[3] = rng.pick(&[f32::MAX, 1.0, 0.0, -f32::MAX]).to_bits();
             args[4] = rng.word();
         }

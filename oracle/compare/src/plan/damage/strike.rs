@@ -1,6 +1,6 @@
 //! Where a plan is struck, and what it then holds.
 
-use crate::cases::limits::NOT_FINITE;
+use crate::chosen::NOT_FINITE;
 use crate::judge::{CAPSULE, PLANE};
 use crate::plan::layout::*;
 use crate::plan::lent::Table;

@@ -1,10 +1,9 @@
 //! A plan that grows call by call, beside a model that only pushes on lists.
 
-use crate::judge::{DONE, NO_ROOM};
-use crate::plan::call::PlanCall;
+use crate::call::Call;
+use crate::judge::{DONE, NO_MATERIAL, NO_ROOM};
 use crate::plan::check::expect;
 use crate::plan::draw::{self, Style};
-use crate::plan::judge::NO_MATERIAL;
 use crate::plan::layout::*;
 use crate::plan::lent::Lent;
 use crate::plan::model::{Light, Material, Piece, Plan};
@@ -20,12 +19,12 @@ pub enum Thing {
 }
 
 impl Thing {
-    pub fn call(&self) -> PlanCall {
+    pub fn call(&self) -> Call {
         match self {
-            Thing::Material(_) => PlanCall::AddMaterial,
-            Thing::Plane(_) => PlanCall::AddPlane,
-            Thing::Light(_) => PlanCall::AddLight,
-            Thing::Object(_) => PlanCall::AddObject,
+            Thing::Material(_) => Call::AddMaterial,
+            Thing::Plane(_) => Call::AddPlane,
+            Thing::Light(_) => Call::AddLight,
+            Thing::Object(_) => Call::AddObject,
         }
     }
 
@@ -60,13 +59,7 @@ impl Growing {
     pub fn new(seed: u64) -> Growing {
         let mut rng = Rng::new(seed);
         let plan = Plan::default();
-        Growing {
-            lent: Lent::new(&plan, rng.below(64)),
-            plan,
-            style: draw::style(&mut rng),
-            rng,
-            sent: [0; 10],
-        }
+        Growing { lent: Lent::new(&plan, rng.below(64)), plan, style: draw::style(&mut rng), rng, sent: [0; 10] }
     }
 
     /// Something for a list: a piece has so many cutters, and one of so many materials.
@@ -126,9 +119,7 @@ impl Growing {
         (0..PLAN_WORDS).find(differs).map_or(Ok(()), |i| {
             let (have, model) = (self.lent.plan.word(i), table[i]);
             let (have, model) = (words::show(have), words::show(model));
-            Err(format!(
-                "word {i} of the plan is {have}, the model's {model}"
-            ))
+            Err(format!("word {i} of the plan is {have}, the model's {model}"))
         })
     }
 

@@ -2,16 +2,15 @@
 
 mod growing;
 
-use super::call::PlanCall;
 use super::check::{check, expect};
-use super::judge::NO_MATERIAL;
 use super::layout::*;
 use super::lent::Lent;
 use super::model::Plan;
 use super::sound;
-use crate::call::OUT_BYTES;
-use crate::cases::limits::NOT_FINITE;
-use crate::judge::{BAD_WORD, DONE, NO_ROOM, PLANE};
+use crate::call::{Call, OUT_BYTES};
+use crate::chosen::NOT_FINITE;
+use crate::judge::{BAD_WORD, DONE, NO_MATERIAL, NO_ROOM, PLANE};
+use crate::progress::through;
 use crate::rng::Rng;
 use growing::{Growing, Thing};
 
@@ -24,13 +23,11 @@ pub fn run(sequences: usize) -> Result<String, String> {
         grown.push(shared_cutters(planes_every, cutters)?);
     }
     nine_cutters()?;
-    for i in 0..sequences {
+    for i in through("entries", 0..sequences, "sequences") {
         grown.push(random(100 + i as u64)?);
     }
     let sent: [usize; 10] = std::array::from_fn(|i| grown.iter().map(|g| g.sent[i]).sum());
-    Ok(format!(
-        "to every limit, and {sequences} sequences of {CALLS} calls; of each number {sent:?}"
-    ))
+    Ok(format!("to every limit, and {sequences} sequences of {CALLS} calls; of each number {sent:?}"))
 }
 
 /// Fills each list; one more gets 2, and so does a second one.
@@ -86,7 +83,7 @@ fn shared_cutters(planes_every: usize, cutters: usize) -> Result<Growing, String
 /// A ninth cutter gets 2, and none of the nine is judged; the piece's own words are.
 fn nine_cutters() -> Result<(), String> {
     let mut lent = Lent::new(&sound::plan(), 5);
-    for (call, kind) in [(PlanCall::AddObject, 1), (PlanCall::AddPlane, PLANE)] {
+    for (call, kind) in [(Call::AddObject, 1), (Call::AddPlane, PLANE)] {
         let nine = sound::piece(kind, &[0, 1, 2, 3, 4, 5, 6, 0, 1]).args(|| 0);
         let mut cases = vec![(BLEND, NOT_FINITE[0], BAD_WORD), (MATERIAL, 3, NO_ROOM)];
         cases.extend((1..10).map(|row| (row * ROW, 7, NO_ROOM)));
@@ -106,11 +103,7 @@ fn random(seed: u64) -> Result<Growing, String> {
     // In some sequences the short lists fill up late.
     let seldom = growing.rng.pick(&[1, 4, 20]);
     for _ in 0..CALLS {
-        let list = if growing.rng.one_in(seldom) {
-            growing.rng.pick(&List::ALL)
-        } else {
-            List::Objects
-        };
+        let list = if growing.rng.one_in(seldom) { growing.rng.pick(&List::ALL) } else { List::Objects };
         // Now and then a material that is not there.
         let absent = usize::from(growing.rng.one_in(16));
         let materials = (growing.plan.materials.len() + absent).max(1);
@@ -124,7 +117,7 @@ fn random(seed: u64) -> Result<Growing, String> {
         }
         if growing.rng.one_in(16) {
             // A tree, which stays until the next object.
-            let sent = check(PlanCall::Build, &mut growing.lent)?;
+            let sent = check(Call::Build, &mut growing.lent)?;
             growing.sent[sent as usize] += 1;
         }
         if growing.rng.one_in(16) {
@@ -136,9 +129,9 @@ fn random(seed: u64) -> Result<Growing, String> {
 
 /// By the list, or by the tree if one still stands.
 fn ask(growing: &mut Growing) -> Result<(), String> {
-    growing.lent.args(&sound::args(PlanCall::Query));
+    growing.lent.args(&sound::args(Call::Query));
     growing.lent.tree = growing.rng.below(2) as u32;
-    for call in PlanCall::ASKS {
+    for &call in Call::ASKS {
         let sent = check(call, &mut growing.lent)?;
         growing.sent[sent as usize] += 1;
     }

@@ -1,10 +1,10 @@
 //! The words of `args`.
 
-use super::{entry, kinds, Cases, ABSENT, TOO_MANY};
-use crate::cases::limits::{about, NOT_FINITE, UNKNOWN_KINDS};
-use crate::judge::{self, BAD_WORD, COORD, DONE, KINDS, NO_ROOM, POINT, RADIUS, WRONG_KIND};
-use crate::plan::call::PlanCall;
-use crate::plan::judge::{BOUND, EMISSION, NO_MATERIAL, UNIT};
+use super::{entry, kinds, own_words, shape, Cases};
+use crate::call::Call;
+use crate::chosen::{about, NAN, NOT_FINITE};
+use crate::judge::{BAD_WORD, COORD, DONE, KINDS, POINT, WRONG_KIND};
+use crate::plan::judge::{BOUND, EMISSION, UNIT};
 use crate::plan::layout::*;
 use crate::plan::model::used;
 use crate::plan::sound;
@@ -13,10 +13,10 @@ use crate::plan::sound;
 pub fn simple(cases: &mut Cases) -> Result<(), String> {
     let light = [vec![COORD; 12], vec![EMISSION; 3]].concat();
     let ranges = [
-        (PlanCall::AddMaterial, vec![UNIT; 5]),
-        (PlanCall::AddLight, light),
-        (PlanCall::Query, vec![POINT, POINT, POINT, BOUND]),
-        (PlanCall::DistMat, vec![POINT; 3]),
+        (Call::AddMaterial, vec![UNIT; 5]),
+        (Call::AddLight, light),
+        (Call::Query, vec![POINT, POINT, POINT, BOUND]),
+        (Call::DistMat, vec![POINT; 3]),
     ];
     for (call, ranges) in ranges {
         cases.args(&sound::args(call));
@@ -26,11 +26,11 @@ pub fn simple(cases: &mut Cases) -> Result<(), String> {
             }
         }
     }
-    cases.args(&sound::args(PlanCall::Query));
+    cases.args(&sound::args(Call::Query));
     for word in NOT_FINITE.into_iter().chain([0, 3, 64, u32::MAX]) {
-        cases.with_args(PlanCall::Query, 4, word, DONE)?;
+        cases.with_args(Call::Query, 4, word, DONE)?;
     }
-    for call in PlanCall::ASKS {
+    for &call in Call::ASKS {
         for tree in [2, 3, 8, 0x100, 0x101, 0x1_0000, 0x8000_0000, u32::MAX] {
             cases.bad_tree = Some(tree);
             cases.args(&sound::args(call));
@@ -46,9 +46,9 @@ pub fn piece(list: List, cases: &mut Cases) -> Result<(), String> {
     let call = entry(list);
     for kind in kinds(list) {
         cases.args(&sound::piece(kind, &[0]).args(|| 0));
-        shape(call, KIND, kind, cases)?;
+        of_shape(call, KIND, kind, cases)?;
         for i in (PIECE_WORDS..ROW).chain(ROW + CUTTER_WORDS..2 * ROW) {
-            cases.with_args(call, i, NOT_FINITE[2], DONE)?;
+            cases.with_args(call, i, NAN, DONE)?;
         }
     }
     // A cutter of each kind, as the first of one and as the last of eight.
@@ -58,10 +58,10 @@ pub fn piece(list: List, cases: &mut Cases) -> Result<(), String> {
             let mut cutters = vec![0; place];
             cutters[place - 1] = cutter;
             cases.args(&sound::piece(kind, &cutters).args(|| 0));
-            shape(call, place * ROW, cutter, cases)?;
+            of_shape(call, place * ROW, cutter, cases)?;
         }
     }
-    own_words(list, cases)?;
+    of_piece(list, cases)?;
     // Any kind of the other list.
     for other in (0..KINDS).filter(|&other| kinds(list).all(|kind| kind != other)) {
         cases.args(&sound::piece(other, &[0]).args(|| 0));
@@ -70,36 +70,25 @@ pub fn piece(list: List, cases: &mut Cases) -> Result<(), String> {
     Ok(())
 }
 
-/// A kind and its words, of the piece or of a cutter.
-fn shape(call: PlanCall, at: usize, kind: u32, cases: &mut Cases) -> Result<(), String> {
-    for (i, &range) in judge::ranges(kind).unwrap().iter().enumerate() {
-        for (word, number) in about(range, DONE) {
-            cases.with_args(call, at + 1 + i, word, number)?;
-        }
+/// A kind and its words, of the piece or of a cutter; those that the kind does not use may hold anything.
+fn of_shape(call: Call, at: usize, kind: u32, cases: &mut Cases) -> Result<(), String> {
+    for (i, word, number) in shape(kind) {
+        cases.with_args(call, at + i, word, number)?;
     }
     for i in used(kind)..8 {
         for word in NOT_FINITE {
             cases.with_args(call, at + 1 + i, word, DONE)?;
         }
     }
-    for unknown in UNKNOWN_KINDS {
-        cases.with_args(call, at, unknown, BAD_WORD)?;
-    }
     Ok(())
 }
 
 /// The piece's other words. Its `args` have eight cutters, so that fewer may be said.
-fn own_words(list: List, cases: &mut Cases) -> Result<(), String> {
+fn of_piece(list: List, cases: &mut Cases) -> Result<(), String> {
     let call = entry(list);
     cases.args(&sound::piece(sound::kind(list), &[0; MOST_CUTTERS]).args(|| 0));
-    for (word, number) in about(RADIUS, DONE) {
-        cases.with_args(call, BLEND, word, number)?;
-    }
-    for material in 0..3 {
-        cases.with_args(call, MATERIAL, material, DONE)?;
-    }
-    for absent in ABSENT {
-        cases.with_args(call, MATERIAL, absent, NO_MATERIAL)?;
+    for (i, word, number) in own_words() {
+        cases.with_args(call, i, word, number)?;
     }
     for cuts in 0..=MOST_CUTTERS {
         cases.with_args(call, CUTS, cuts as u32, DONE)?;
@@ -108,9 +97,6 @@ fn own_words(list: List, cases: &mut Cases) -> Result<(), String> {
     for cuts in 0..MOST_CUTTERS {
         let changes = [(CUTS, cuts as u32), ((1 + cuts) * ROW, 7)];
         cases.hold(call, &changes, &[], DONE)?;
-    }
-    for cuts in TOO_MANY {
-        cases.with_args(call, CUTS, cuts, NO_ROOM)?;
     }
     Ok(())
 }

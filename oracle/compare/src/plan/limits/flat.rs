@@ -1,8 +1,8 @@
 //! Capsules and lights of no extent.
 
 use super::{entry, Cases};
+use crate::call::Call;
 use crate::judge::{CAPSULE, DONE, NO_EXTENT, WRONG_KIND};
-use crate::plan::call::PlanCall;
 use crate::plan::layout::List;
 use crate::plan::model::{Piece, Prim};
 use crate::plan::sound;
@@ -11,13 +11,7 @@ use crate::words;
 /// Ends that differ by a step: where its square is computed as 0, the capsule gets 4, as a piece
 /// and as a cutter, given and in the plan.
 pub fn capsules(cases: &mut Cases) -> Result<(), String> {
-    let steps = [
-        (0.0, NO_EXTENT),
-        (f32::from_bits(1), NO_EXTENT),
-        (1e-23, NO_EXTENT),
-        (3e-23, DONE),
-        (1.0, DONE),
-    ];
+    let steps = [(0.0, NO_EXTENT), (f32::from_bits(1), NO_EXTENT), (1e-23, NO_EXTENT), (3e-23, DONE), (1.0, DONE)];
     for (step, number) in steps {
         for axis in 0..3 {
             let mut ends = [0.0; 7];
@@ -28,11 +22,7 @@ pub fn capsules(cases: &mut Cases) -> Result<(), String> {
                 cut.cutters[1] = capsule;
                 let mut own = sound::piece(CAPSULE, &[0]);
                 own.prim = capsule;
-                let wrong = if list == List::Planes && number == DONE {
-                    WRONG_KIND
-                } else {
-                    number
-                };
+                let wrong = if list == List::Planes && number == DONE { WRONG_KIND } else { number };
                 for (piece, number) in [(cut, number), (own, wrong)] {
                     cases.plan(&sound::plan());
                     cases.args(&piece.args(|| 0));
@@ -53,12 +43,7 @@ fn in_the_plan(list: List, piece: Piece, number: u32, cases: &mut Cases) -> Resu
         _ => plan.objects.push(piece),
     }
     cases.plan(&plan);
-    for call in PlanCall::ALL {
-        let tested = call.tests().contains(&list);
-        cases.args(&sound::args(call));
-        cases.hold(call, &[], &[], if tested { number } else { DONE })?;
-    }
-    Ok(())
+    cases.every_call(&[], |call| if call.tests().contains(&list) { number } else { DONE })
 }
 
 pub fn lights(cases: &mut Cases) -> Result<(), String> {
@@ -84,7 +69,7 @@ pub fn lights(cases: &mut Cases) -> Result<(), String> {
             for (e1, e2) in [(e1, e2), (e2, e1)] {
                 let corners = [[0.0; 3], e1, third, e2].concat();
                 cases.args(&words::bits(&[&corners[..], &[1.0; 3]].concat()));
-                cases.hold(PlanCall::AddLight, &[], &[], number)?;
+                cases.hold(Call::AddLight, &[], &[], number)?;
             }
         }
     }

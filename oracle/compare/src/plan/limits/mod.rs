@@ -6,13 +6,14 @@ mod flat;
 mod pieces;
 mod whole;
 
-use super::call::PlanCall;
 use super::check::expect;
-use super::layout::List;
+use super::layout::*;
 use super::lent::Lent;
 use super::model::{Piece, Plan, Prim};
 use super::sound;
-use crate::judge::{DONE, KINDS, PLANE};
+use crate::call::Call;
+use crate::chosen::{about, UNKNOWN_KINDS};
+use crate::judge::{self, BAD_WORD, DONE, KINDS, NO_MATERIAL, NO_ROOM, PLANE, RADIUS};
 use crate::words;
 
 pub fn run() -> Result<String, String> {
@@ -43,12 +44,7 @@ struct Cases {
 impl Cases {
     fn new() -> Cases {
         let [lent, base] = [0; 2].map(|_| Lent::new(&sound::plan(), 1));
-        Cases {
-            count: 0,
-            lent,
-            base,
-            bad_tree: None,
-        }
+        Cases { count: 0, lent, base, bad_tree: None }
     }
 
     /// The plan of the cases that follow.
@@ -62,13 +58,7 @@ impl Cases {
 
     /// Makes the call with some words of `args` and of the plan changed; by the list and by a tree
     /// that stands for the objects as they then are.
-    fn hold(
-        &mut self,
-        call: PlanCall,
-        args: &[(usize, u32)],
-        plan: &[(usize, u32)],
-        number: u32,
-    ) -> Result<(), String> {
+    fn hold(&mut self, call: Call, args: &[(usize, u32)], plan: &[(usize, u32)], number: u32) -> Result<(), String> {
         self.lent.plan.copy(&self.base.plan);
         self.lent.args.copy(&self.base.args);
         for &(i, word) in args {
@@ -87,29 +77,22 @@ impl Cases {
         Ok(())
     }
 
-    fn with_args(
-        &mut self,
-        call: PlanCall,
-        i: usize,
-        word: u32,
-        number: u32,
-    ) -> Result<(), String> {
+    fn with_args(&mut self, call: Call, i: usize, word: u32, number: u32) -> Result<(), String> {
         self.hold(call, &[(i, word)], &[], number)
     }
 
     /// One word of the plan changed, for every call: `number` for those that test such a piece
     /// (`list`; all calls where there is none), 0 for the others.
-    fn with_plan(
-        &mut self,
-        list: Option<List>,
-        i: usize,
-        word: u32,
-        number: u32,
-    ) -> Result<(), String> {
-        for call in PlanCall::ALL {
-            let tested = list.is_none_or(|list| call.tests().contains(&list));
+    fn with_plan(&mut self, list: Option<List>, i: usize, word: u32, number: u32) -> Result<(), String> {
+        let tested = |call: Call| list.is_none_or(|list| call.tests().contains(&list));
+        self.every_call(&[(i, word)], |call| if tested(call) { number } else { DONE })
+    }
+
+    /// Every call on sound `args`, with some words of the plan changed.
+    fn every_call(&mut self, plan: &[(usize, u32)], number: impl Fn(Call) -> u32) -> Result<(), String> {
+        for call in Call::on_plans() {
             self.args(&sound::args(call));
-            self.hold(call, &[], &[(i, word)], if tested { number } else { DONE })?;
+            self.hold(call, &[], plan, number(call))?;
         }
         Ok(())
     }
@@ -117,21 +100,12 @@ impl Cases {
 
 fn rows(cases: &mut Cases) -> Result<(), String> {
     let sphere = |r: f32| Prim::new(0, &words::bits(&[0.0, 0.0, 0.0, r]));
-    let piece = Piece {
-        material: 0,
-        blend: 0,
-        prim: sphere(2.0),
-        cutters: vec![sphere(1.0)],
-    };
-    let p9 = Plan {
-        materials: vec![sound::material()],
-        objects: vec![piece],
-        ..Plan::default()
-    };
+    let piece = Piece { material: 0, blend: 0, prim: sphere(2.0), cutters: vec![sphere(1.0)] };
+    let p9 = Plan { materials: vec![sound::material()], objects: vec![piece], ..Plan::default() };
     cases.args(&[0, 0, 0]);
     for (name, plan, answer) in [("P9", p9, 1.0), ("P10", Plan::default(), f32::MAX)] {
         cases.plan(&plan);
-        cases.hold(PlanCall::DistMat, &[], &[], DONE)?;
+        cases.hold(Call::DistMat, &[], &[], DONE)?;
         let have = [0, 1].map(|i| cases.lent.out.word(i));
         if have != [f32::to_bits(answer), 0] {
             let have = words::show_all(&have);
@@ -147,15 +121,35 @@ fn kinds(list: List) -> impl Iterator<Item = u32> {
     (0..KINDS).filter(move |&kind| (kind == PLANE) == (list == List::Planes))
 }
 
+/// A kind and its words about their limits: each place from that of the kind on, the word, its number.
+fn shape(kind: u32) -> Vec<(usize, u32, u32)> {
+    let mut words: Vec<(usize, u32, u32)> = Vec::new();
+    for (i, &range) in judge::ranges(kind).unwrap().iter().enumerate() {
+        words.extend(about(range, DONE).into_iter().map(|(word, number)| (1 + i, word, number)));
+    }
+    words.extend(UNKNOWN_KINDS.map(|unknown| (0, unknown, BAD_WORD)));
+    words
+}
+
+/// The other words of a piece likewise, where three materials are.
+fn own_words() -> Vec<(usize, u32, u32)> {
+    let blends = about(RADIUS, DONE).into_iter().map(|(word, number)| (BLEND, word, number));
+    let mut words: Vec<(usize, u32, u32)> = blends.collect();
+    words.extend([0, 1, 2].map(|material| (MATERIAL, material, DONE)));
+    words.extend(ABSENT.map(|material| (MATERIAL, material, NO_MATERIAL)));
+    words.extend(TOO_MANY.map(|cuts| (CUTS, cuts, NO_ROOM)));
+    words
+}
+
 /// Numbers of materials that are not there, where three are.
 const ABSENT: [u32; 7] = [3, 4, 64, 0x100, 0x1_0000, 1 << 31, u32::MAX];
 
 /// Words that are no number of cutters, some of which overflow when a length is worked out.
 const TOO_MANY: [u32; 9] = [9, 10, 16, 0x100, 0x108, 1 << 26, 1 << 28, 1 << 31, u32::MAX];
 
-fn entry(list: List) -> PlanCall {
+fn entry(list: List) -> Call {
     match list {
-        List::Planes => PlanCall::AddPlane,
-        _ => PlanCall::AddObject,
+        List::Planes => Call::AddPlane,
+        _ => Call::AddObject,
     }
 }

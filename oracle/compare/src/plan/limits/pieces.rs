@@ -1,9 +1,7 @@
 //! The words of pieces that are in the plan.
 
-use super::{kinds, Cases, ABSENT, TOO_MANY};
-use crate::cases::limits::{about, UNKNOWN_KINDS};
-use crate::judge::{self, BAD_WORD, DONE, KINDS, NO_ROOM, RADIUS};
-use crate::plan::judge::NO_MATERIAL;
+use super::{kinds, own_words, shape, Cases};
+use crate::judge::{KINDS, NO_ROOM};
 use crate::plan::layout::*;
 use crate::plan::sound;
 
@@ -22,12 +20,12 @@ pub fn run(list: List, cases: &mut Cases) -> Result<(), String> {
         cases.plan(&plan);
         let table = plan.table();
         let at = list.section().at(record);
-        shape(list, at + KIND, kind, cases)?;
+        of_shape(list, at + KIND, kind, cases)?;
         let place = table[at + PLACE] as usize;
-        shape(list, CUTTERS.at(place), cutter, cases)?;
-        shape(list, CUTTERS.at(place + 2), cutter, cases)?;
+        of_shape(list, CUTTERS.at(place), cutter, cases)?;
+        of_shape(list, CUTTERS.at(place + 2), cutter, cases)?;
         if cutter < 2 {
-            own_words(list, at, &table, cases)?;
+            of_piece(list, at, &table, cases)?;
         }
     }
     cases.plan(&sound::plan());
@@ -35,30 +33,13 @@ pub fn run(list: List, cases: &mut Cases) -> Result<(), String> {
 }
 
 /// A kind and its words, of a piece of the list or of its cutter.
-fn shape(list: List, at: usize, kind: u32, cases: &mut Cases) -> Result<(), String> {
-    for (i, &range) in judge::ranges(kind).unwrap().iter().enumerate() {
-        for (word, number) in about(range, DONE) {
-            cases.with_plan(Some(list), at + 1 + i, word, number)?;
-        }
-    }
-    for unknown in UNKNOWN_KINDS {
-        cases.with_plan(Some(list), at, unknown, BAD_WORD)?;
-    }
-    Ok(())
+fn of_shape(list: List, at: usize, kind: u32, cases: &mut Cases) -> Result<(), String> {
+    shape(kind).into_iter().try_for_each(|(i, word, number)| cases.with_plan(Some(list), at + i, word, number))
 }
 
-fn own_words(list: List, at: usize, table: &[u32], cases: &mut Cases) -> Result<(), String> {
-    for (word, number) in about(RADIUS, DONE) {
-        cases.with_plan(Some(list), at + BLEND, word, number)?;
-    }
-    for material in 0..3 {
-        cases.with_plan(Some(list), at + MATERIAL, material, DONE)?;
-    }
-    for absent in ABSENT {
-        cases.with_plan(Some(list), at + MATERIAL, absent, NO_MATERIAL)?;
-    }
-    for cuts in TOO_MANY {
-        cases.with_plan(Some(list), at + CUTS, cuts, NO_ROOM)?;
+fn of_piece(list: List, at: usize, table: &[u32], cases: &mut Cases) -> Result<(), String> {
+    for (i, word, number) in own_words() {
+        cases.with_plan(Some(list), at + i, word, number)?;
     }
     // Another number of cutters moves the places of later pieces, or of a plane itself.
     let cuts = table[at + CUTS];

@@ -1,10 +1,9 @@
 //! Counts, sums over pieces, and all that is not read.
 
 use super::Cases;
-use crate::cases::limits::NOT_FINITE;
-use crate::judge::{BAD_WORD, DONE, NO_ROOM, PLANE};
-use crate::plan::call::PlanCall;
-use crate::plan::judge::NO_MATERIAL;
+use crate::call::Call;
+use crate::chosen::NOT_FINITE;
+use crate::judge::{BAD_WORD, DONE, NO_MATERIAL, NO_ROOM, PLANE};
 use crate::plan::layout::*;
 use crate::plan::model::{cutters_of, used, Plan};
 use crate::plan::sound;
@@ -12,35 +11,27 @@ use crate::plan::sound;
 /// A count may be at its limit; one above it, all calls refuse.
 pub fn counts(cases: &mut Cases) -> Result<(), String> {
     // Without cutters a record of zeros is a sound object: a sphere of radius 0.
-    let plan = Plan {
-        materials: vec![sound::material(); 3],
-        ..Plan::default()
-    };
+    let plan = Plan { materials: vec![sound::material(); 3], ..Plan::default() };
     cases.plan(&plan);
     for list in List::ALL {
         let most = list.section().records as u32;
         for more in [1, 2, most, 0x100, 0x1_0000, 1 << 31, u32::MAX - most] {
             cases.with_plan(None, list as usize, most + more, NO_ROOM)?;
         }
-        for call in PlanCall::ALL {
-            cases.args(&sound::args(call));
+        cases.every_call(&[(list as usize, most)], |call| {
             // Among planes such a record is at place 0, where 1,024 must stand.
             let misplaced = list == List::Planes && call.tests().contains(&list);
             let refused = call.enters() == Some(list) || misplaced;
-            let number = if refused { NO_ROOM } else { DONE };
-            cases.hold(call, &[], &[(list as usize, most)], number)?;
-        }
+            if refused {
+                NO_ROOM
+            } else {
+                DONE
+            }
+        })?;
     }
     // No materials: every piece names one that is not there.
-    cases.plan(&Plan {
-        materials: Vec::new(),
-        ..sound::plan()
-    });
-    for call in PlanCall::ALL {
-        cases.args(&sound::args(call));
-        let tested = !call.tests().is_empty();
-        cases.hold(call, &[], &[], if tested { NO_MATERIAL } else { DONE })?;
-    }
+    cases.plan(&Plan { materials: Vec::new(), ..sound::plan() });
+    cases.every_call(&[], |call| if call.tests().is_empty() { DONE } else { NO_MATERIAL })?;
     cases.plan(&sound::plan());
     Ok(())
 }
@@ -59,7 +50,7 @@ pub fn sums(cases: &mut Cases) -> Result<(), String> {
         table[PLANES.first + CUTS] = of_plane;
         table[PLANES.first + PLACE] = 1_024 - of_plane;
         cases.base.plan.put(0, &table);
-        for call in PlanCall::ALL {
+        for call in Call::on_plans() {
             let mut args = sound::args(call);
             if call.args_words() == ROW {
                 args[CUTS] = 0;
@@ -82,11 +73,7 @@ pub fn sums(cases: &mut Cases) -> Result<(), String> {
         table[OBJECTS.at(i) + PLACE] = 8 * i as u32;
     }
     cases.base.plan.put(0, &table);
-    for call in PlanCall::ALL {
-        cases.args(&sound::args(call));
-        let tested = !call.tests().is_empty();
-        cases.hold(call, &[], &[], if tested { NO_ROOM } else { DONE })?;
-    }
+    cases.every_call(&[], |call| if call.tests().is_empty() { DONE } else { NO_ROOM })?;
     cases.plan(&sound::plan());
     Ok(())
 }
@@ -119,15 +106,7 @@ pub fn never_read(cases: &mut Cases) -> Result<(), String> {
         places.extend(at + 1 + used(table[at])..at + ROW);
     }
     // An entry of ours writes the first two, or the last two.
-    for record in [
-        bottom,
-        bottom + 1,
-        bottom + 2,
-        500,
-        top - 3,
-        top - 2,
-        top - 1,
-    ] {
+    for record in [bottom, bottom + 1, bottom + 2, 500, top - 3, top - 2, top - 1] {
         places.extend(CUTTERS.at(record)..CUTTERS.at(record + 1));
     }
     for place in places {

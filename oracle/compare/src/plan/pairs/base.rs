@@ -1,7 +1,7 @@
 //! What the reasons are put into: plans and `args` in which each can be had by few words.
 
+use crate::call::Call;
 use crate::judge::{CAPSULE, PLANE};
-use crate::plan::call::PlanCall;
 use crate::plan::layout::*;
 use crate::plan::lent::Lent;
 use crate::plan::model::{Piece, Plan, Prim};
@@ -65,14 +65,14 @@ impl Base {
 
     /// The base and `args` that are sound, with two cutters where it is a piece that they enter.
     /// A tree stands, and is offered, that is right for the objects whatever they are.
-    pub fn lend(&self, call: PlanCall, tree: u32) -> Lent {
+    pub fn lend(&self, call: Call, tree: u32) -> Lent {
         let mut lent = Lent::new(&Plan::default(), 2);
         lent.plan.put(0, &self.table);
         lent.any_tree();
         lent.tree = tree;
         lent.args(&match call {
-            PlanCall::AddPlane => with_upright(sound::piece(PLANE, &[3, 0])).args(|| 0),
-            PlanCall::AddObject => with_upright(sound::piece(CAPSULE, &[3, 0])).args(|| 0),
+            Call::AddPlane => with_upright(sound::piece(PLANE, &[3, 0])).args(|| 0),
+            Call::AddObject => with_upright(sound::piece(CAPSULE, &[3, 0])).args(|| 0),
             _ => sound::args(call),
         });
         lent

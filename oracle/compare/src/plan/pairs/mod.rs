@@ -5,38 +5,37 @@ mod base;
 mod reason;
 mod reasons;
 
-use super::call::PlanCall;
 use super::check::expect;
 use super::lent::Lent;
+use crate::call::Call;
 use crate::judge::{DONE, NO_ROOM};
+use crate::progress::through;
 use base::Base;
 use reason::Reason;
 
 /// Every set of up to so many reasons that can be had together.
 pub fn run(together: usize) -> Result<String, String> {
     let mut sent = [0; 10];
-    for crowded in [false, true] {
-        let base = Base::new(crowded);
-        for call in PlanCall::ALL {
-            let piece = matches!(call, PlanCall::AddPlane | PlanCall::AddObject);
-            for &tree in call.trees() {
-                let mut sets = Sets {
-                    call,
-                    crowded: crowded && piece,
-                    reasons: reasons::reasons(call, tree, &base),
-                    fresh: base.lend(call, tree),
-                    lent: base.lend(call, tree),
-                    sent: &mut sent,
-                };
-                sets.from(0, &mut Vec::new(), together)?;
-            }
-        }
+    let bases = [false, true].map(Base::new);
+    let ways = |base| Call::with_trees().map(move |way| (base, way));
+    let ways: Vec<(&Base, (Call, u32))> = bases.iter().flat_map(ways).collect();
+    for (base, (call, tree)) in through("refusals", ways, "calls") {
+        let piece = matches!(call, Call::AddPlane | Call::AddObject);
+        let mut sets = Sets {
+            call,
+            crowded: base.crowded && piece,
+            reasons: reasons::reasons(call, tree, base),
+            fresh: base.lend(call, tree),
+            lent: base.lend(call, tree),
+            sent: &mut sent,
+        };
+        sets.from(0, &mut Vec::new(), together)?;
     }
     Ok(format!("up to {together}; of each number {sent:?}"))
 }
 
 struct Sets<'a> {
-    call: PlanCall,
+    call: Call,
     /// Whatever else there is, what is to enter finds no room for its cutters.
     crowded: bool,
     reasons: Vec<Reason>,

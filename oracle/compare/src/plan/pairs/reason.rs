@@ -1,6 +1,6 @@
 //! A reason to refuse: the number that it gets, what it changes, and what it hides.
 
-use crate::plan::lent::Lent;
+use crate::plan::lent::{Lent, Which};
 
 /// What a reason speaks of.
 #[derive(Clone, Copy, PartialEq)]
@@ -39,47 +39,26 @@ impl Of {
 
 #[derive(Clone, Copy)]
 pub enum Change {
-    Plan(usize, u32),
-    Args(usize, u32),
-    PlanLength(usize),
-    NodesLength(usize),
-    OrderLength(usize),
-    ArgsLength(usize),
-    OutLength(usize),
-    Nodes(usize, u32),
-    Order(usize, u32),
-    OfferedNodes(usize, u32),
-    OfferedOrder(usize, u32),
-    OfferedNodesLength(usize),
-    OfferedOrderLength(usize),
+    Word(Which, usize, u32),
+    Length(Which, usize),
     Tree(u32),
 }
 
 impl Change {
     pub fn make(self, lent: &mut Lent) {
         match self {
-            Change::Plan(i, word) => lent.plan.put(i, &[word]),
-            Change::Args(i, word) => lent.args.put(i, &[word]),
-            Change::PlanLength(len) => lent.plan.resize(len),
-            Change::NodesLength(len) => lent.nodes.resize(len),
-            Change::OrderLength(len) => lent.order.resize(len),
-            Change::ArgsLength(len) => lent.args.resize(len),
-            Change::OutLength(len) => lent.out.resize(len),
-            Change::Nodes(i, word) => lent.nodes.put(i, &[word]),
-            Change::Order(i, word) => lent.order.put(i, &[word]),
-            Change::OfferedNodes(i, word) => lent.offered_nodes.put(i, &[word]),
-            Change::OfferedOrder(i, word) => lent.offered_order.put(i, &[word]),
-            Change::OfferedNodesLength(len) => lent.offered_nodes.resize(len),
-            Change::OfferedOrderLength(len) => lent.offered_order.resize(len),
+            Change::Word(which, i, word) => lent.table(which).put(i, &[word]),
+            Change::Length(which, len) => lent.table(which).resize(len),
             Change::Tree(tree) => lent.tree = tree,
         }
     }
 
     fn meets(self, other: Change) -> bool {
         match (self, other) {
-            (Change::Plan(a, _), Change::Plan(b, _)) => a == b,
-            (Change::Args(a, _), Change::Args(b, _)) => a == b,
-            _ => std::mem::discriminant(&self) == std::mem::discriminant(&other),
+            (Change::Word(a, i, _), Change::Word(b, j, _)) => a == b && i == j,
+            (Change::Length(a, _), Change::Length(b, _)) => a == b,
+            (Change::Tree(_), Change::Tree(_)) => true,
+            _ => false,
         }
     }
 }

@@ -2,16 +2,13 @@
 
 use super::base::{Base, UPRIGHT};
 use super::reason::{Change, Of, Reason};
-use crate::call::OUT_BYTES;
-use crate::judge::{BAD_WORD, CAPSULE, NO_EXTENT, NO_ROOM, PLANE, WRONG_KIND};
-use crate::plan::call::PlanCall;
-use crate::plan::judge::NO_MATERIAL;
+use crate::call::{Call, OUT_BYTES};
+use crate::chosen::NAN;
+use crate::judge::{BAD_TREE, BAD_WORD, CAPSULE, NO_EXTENT, NO_MATERIAL, NO_ROOM, NO_TREE, PLANE, WRONG_KIND};
 use crate::plan::layout::*;
+use crate::plan::lent::Which::{Args, Nodes, OfferedNodes, OfferedOrder, Order, Out, Plan};
 use crate::plan::sound;
-use crate::tree::rules::{BAD_TREE, NO_TREE};
-use Change::{Args, ArgsLength, NodesLength, OrderLength, OutLength, PlanLength, Tree};
-
-const NAN: u32 = 0x7fc0_0000;
+use Change::{Length, Tree, Word};
 
 /// The reasons that are gathered.
 struct Reasons(Vec<Reason>);
@@ -19,15 +16,11 @@ struct Reasons(Vec<Reason>);
 impl Reasons {
     fn add(&mut self, number: u32, of: Of, changes: impl Into<Vec<Change>>) {
         let changes = changes.into();
-        self.0.push(Reason {
-            number,
-            of,
-            changes,
-        });
+        self.0.push(Reason { number, of, changes });
     }
 }
 
-pub fn reasons(call: PlanCall, tree: u32, base: &Base) -> Vec<Reason> {
+pub fn reasons(call: Call, tree: u32, base: &Base) -> Vec<Reason> {
     let mut reasons = Reasons(Vec::new());
     lent(call, &mut reasons);
     trees(call, tree, &mut reasons);
@@ -39,12 +32,12 @@ pub fn reasons(call: PlanCall, tree: u32, base: &Base) -> Vec<Reason> {
     reasons.0
 }
 
-fn lent(call: PlanCall, reasons: &mut Reasons) {
-    reasons.add(NO_ROOM, Of::Lent, [OutLength(OUT_BYTES - 1)]);
-    reasons.add(NO_ROOM, Of::PlanLength, [PlanLength(PLAN_BYTES - 1)]);
+fn lent(call: Call, reasons: &mut Reasons) {
+    reasons.add(NO_ROOM, Of::Lent, [Length(Out, OUT_BYTES - 1)]);
+    reasons.add(NO_ROOM, Of::PlanLength, [Length(Plan, PLAN_BYTES - 1)]);
     if call.args_words() > 0 {
         let short = 4 * call.args_words() - 1;
-        reasons.add(NO_ROOM, Of::ArgsLength, [ArgsLength(short)]);
+        reasons.add(NO_ROOM, Of::ArgsLength, [Length(Args, short)]);
     }
     if call.asks() {
         reasons.add(BAD_WORD, Of::Lent, [Tree(2)]);
@@ -52,34 +45,26 @@ fn lent(call: PlanCall, reasons: &mut Reasons) {
 }
 
 /// Tables of trees that are short, and trees that break a rule.
-fn trees(call: PlanCall, tree: u32, reasons: &mut Reasons) {
-    let written = matches!(
-        call,
-        PlanCall::AddObject | PlanCall::Build | PlanCall::Offer
-    );
+fn trees(call: Call, tree: u32, reasons: &mut Reasons) {
+    let written = matches!(call, Call::AddObject | Call::Build | Call::Offer);
     if written || tree == 1 {
-        reasons.add(NO_ROOM, Of::Lent, [NodesLength(NODES_BYTES - 1)]);
-        reasons.add(NO_ROOM, Of::Lent, [OrderLength(ORDER_BYTES - 1)]);
+        reasons.add(NO_ROOM, Of::Lent, [Length(Nodes, NODES_BYTES - 1)]);
+        reasons.add(NO_ROOM, Of::Lent, [Length(Order, ORDER_BYTES - 1)]);
     }
     if tree == 1 {
-        reasons.add(NO_TREE, Of::Lent, [Change::Nodes(0, NAN)]);
-        reasons.add(NO_TREE, Of::Lent, [Change::Order(0, 1)]);
+        reasons.add(NO_TREE, Of::Lent, [Word(Nodes, 0, NAN)]);
+        reasons.add(NO_TREE, Of::Lent, [Word(Order, 0, 1)]);
     }
-    if call == PlanCall::Offer {
-        let lengths = [
-            Change::OfferedNodesLength(NODES_BYTES - 1),
-            Change::OfferedOrderLength(ORDER_BYTES - 1),
-        ];
-        for length in lengths {
-            reasons.add(NO_ROOM, Of::Lent, [length]);
-        }
-        reasons.add(BAD_TREE, Of::Lent, [Change::OfferedNodes(0, NAN)]);
-        reasons.add(BAD_TREE, Of::Lent, [Change::OfferedOrder(0, 1)]);
+    if call == Call::Offer {
+        reasons.add(NO_ROOM, Of::Lent, [Length(OfferedNodes, NODES_BYTES - 1)]);
+        reasons.add(NO_ROOM, Of::Lent, [Length(OfferedOrder, ORDER_BYTES - 1)]);
+        reasons.add(BAD_TREE, Of::Lent, [Word(OfferedNodes, 0, NAN)]);
+        reasons.add(BAD_TREE, Of::Lent, [Word(OfferedOrder, 0, 1)]);
     }
 }
 
-fn counts(call: PlanCall, base: &Base, reasons: &mut Reasons) {
-    let count = |list: List, count: u32| [Change::Plan(list as usize, count)];
+fn counts(call: Call, base: &Base, reasons: &mut Reasons) {
+    let count = |list: List, count: u32| [Word(Plan, list as usize, count)];
     for list in List::ALL {
         let most = list.section().records as u32;
         reasons.add(NO_ROOM, Of::Counts, count(list, most + 1));
@@ -114,7 +99,7 @@ fn flat_from_any(at: usize) -> [(usize, u32); 8] {
 }
 
 fn pieces(list: List, base: &Base, reasons: &mut Reasons) {
-    let plan = |(i, word)| Change::Plan(i, word);
+    let plan = |(i, word)| Word(Plan, i, word);
     let at = list.section().at(0);
     let place = base.table[at + PLACE];
     let own = [
@@ -146,42 +131,43 @@ fn pieces(list: List, base: &Base, reasons: &mut Reasons) {
     }
 }
 
-fn args(call: PlanCall, reasons: &mut Reasons) {
-    let given = |(i, word)| Args(i, word);
+fn args(call: Call, reasons: &mut Reasons) {
+    let given = |(i, word)| Word(Args, i, word);
     match call {
-        PlanCall::Build | PlanCall::Offer => {}
-        PlanCall::AddMaterial | PlanCall::DistMat => {
-            reasons.add(BAD_WORD, Of::Args, [Args(0, NAN)]);
+        Call::Build | Call::Offer => {}
+        Call::AddMaterial | Call::DistMat => {
+            reasons.add(BAD_WORD, Of::Args, [Word(Args, 0, NAN)]);
         }
-        PlanCall::Query => {
-            reasons.add(BAD_WORD, Of::Args, [Args(0, NAN)]);
-            reasons.add(BAD_WORD, Of::Args, [Args(3, NAN)]);
+        Call::Query => {
+            reasons.add(BAD_WORD, Of::Args, [Word(Args, 0, NAN)]);
+            reasons.add(BAD_WORD, Of::Args, [Word(Args, 3, NAN)]);
         }
-        PlanCall::AddLight => {
-            reasons.add(BAD_WORD, Of::Args, [Args(12, NAN)]);
+        Call::AddLight => {
+            reasons.add(BAD_WORD, Of::Args, [Word(Args, 12, NAN)]);
             // The second corner at the first; the fourth at the first; the fourth at the second.
             for (corner, at) in [(3, 0), (9, 0), (9, 3)] {
-                let word = |i: usize| Args(corner + i, sound::LIGHT[at + i].to_bits());
+                let word = |i: usize| Word(Args, corner + i, sound::LIGHT[at + i].to_bits());
                 reasons.add(NO_EXTENT, Of::Args, [0, 1, 2].map(word));
             }
         }
-        PlanCall::AddPlane | PlanCall::AddObject => {
-            reasons.add(NO_MATERIAL, Of::Args, [Args(MATERIAL, 3)]);
-            reasons.add(BAD_WORD, Of::Args, [Args(BLEND, NAN)]);
-            reasons.add(BAD_WORD, Of::Args, [Args(KIND, 7)]);
-            reasons.add(NO_ROOM, Of::ArgsEnd, [Args(CUTS, 9)]);
-            reasons.add(NO_ROOM, Of::ArgsEnd, [ArgsLength(4 * 3 * ROW - 1)]);
-            reasons.add(NO_ROOM, Of::ArgsEnd, [ArgsLength(4 * ROW)]);
-            reasons.add(BAD_WORD, Of::ArgsCutters, [Args(ROW, 7)]);
-            reasons.add(BAD_WORD, Of::ArgsCutters, [Args(2 * ROW + 4, NAN)]);
+        Call::AddPlane | Call::AddObject => {
+            reasons.add(NO_MATERIAL, Of::Args, [Word(Args, MATERIAL, 3)]);
+            reasons.add(BAD_WORD, Of::Args, [Word(Args, BLEND, NAN)]);
+            reasons.add(BAD_WORD, Of::Args, [Word(Args, KIND, 7)]);
+            reasons.add(NO_ROOM, Of::ArgsEnd, [Word(Args, CUTS, 9)]);
+            reasons.add(NO_ROOM, Of::ArgsEnd, [Length(Args, 4 * 3 * ROW - 1)]);
+            reasons.add(NO_ROOM, Of::ArgsEnd, [Length(Args, 4 * ROW)]);
+            reasons.add(BAD_WORD, Of::ArgsCutters, [Word(Args, ROW, 7)]);
+            reasons.add(BAD_WORD, Of::ArgsCutters, [Word(Args, 2 * ROW + 4, NAN)]);
             reasons.add(NO_EXTENT, Of::ArgsCutters, flat(ROW).map(given));
-            if call == PlanCall::AddPlane {
-                reasons.add(WRONG_KIND, Of::Args, [Args(KIND, 0)]);
+            if call == Call::AddPlane {
+                reasons.add(WRONG_KIND, Of::Args, [Word(Args, KIND, 0)]);
                 reasons.add(NO_EXTENT, Of::Args, flat_from_any(KIND).map(given));
             } else {
                 reasons.add(WRONG_KIND, Of::Args, plane(KIND).map(given));
                 reasons.add(NO_EXTENT, Of::Args, flat(KIND).map(given));
             }
         }
+        _ => call.stray(),
     }
 }

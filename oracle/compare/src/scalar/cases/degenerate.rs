@@ -4,12 +4,8 @@ use super::{prim_args, prim_case, Case};
 use crate::call::Call;
 use crate::judge::{DONE, NO_EXTENT, WRONG_KIND};
 
-const CENTRES: [[f32; 3]; 4] = [
-    [0.0, 0.0, 0.0],
-    [1.0, -2.0, 0.5],
-    [10_000.0, -10_000.0, 10_000.0],
-    [-0.0, 1e-20, 3e-39],
-];
+const CENTRES: [[f32; 3]; 4] =
+    [[0.0, 0.0, 0.0], [1.0, -2.0, 0.5], [10_000.0, -10_000.0, 10_000.0], [-0.0, 1e-20, 3e-39]];
 
 pub fn degenerate() -> Vec<Case> {
     let mut cases = Vec::new();
@@ -53,11 +49,7 @@ fn equal_ends([x, y, z]: [f32; 3], r: f32, cases: &mut Vec<Case>) {
 
 /// Ends that differ: the square of 1e-23 is computed as 0, that of 3e-23 is not.
 fn hardly_apart(cases: &mut Vec<Case>) {
-    for (step, number) in [
-        (f32::from_bits(1), NO_EXTENT),
-        (1e-23, NO_EXTENT),
-        (3e-23, DONE),
-    ] {
+    for (step, number) in [(f32::from_bits(1), NO_EXTENT), (1e-23, NO_EXTENT), (3e-23, DONE)] {
         for axis in 0..3 {
             let mut ends = [0.0; 6];
             ends[3 + axis] = step;
@@ -86,16 +78,8 @@ fn add(kind: u32, shape: &[f32], number: u32, cases: &mut Vec<Case>) {
     let beside = first.map(|x| x + 1.0);
     let across = [first[0], first[1] + 0.5, first[2]];
     for point in [first, beside, across, [0.0; 3], [3.0, -4.0, 200_000.0]] {
-        cases.push(prim_case(
-            Call::PrimDist,
-            prim_args(kind, shape, point),
-            number,
-        ));
+        cases.push(prim_case(Call::PrimDist, prim_args(kind, shape, point), number));
     }
     let number = if kind == 2 { WRONG_KIND } else { number };
-    cases.push(prim_case(
-        Call::PrimBounds,
-        prim_args(kind, shape, [0.0; 3]),
-        number,
-    ));
+    cases.push(prim_case(Call::PrimBounds, prim_args(kind, shape, [0.0; 3]), number));
 }

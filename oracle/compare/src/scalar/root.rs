@@ -1,7 +1,8 @@
-//! Root on a sample of all patterns from 0 to f32::MAX, bit for bit the hardware's.
+//! Root on patterns from 0 to f32::MAX, bit for bit the hardware's.
 
+use super::check::check;
+use super::patterns::{self, halves};
 use crate::call::{Call, OUT_BYTES};
-use crate::check::check;
 use crate::rng::Rng;
 
 /// A prime, so that the low bits of the patterns go through all their values.
@@ -12,7 +13,8 @@ const NEAR_TIES: usize = 200_000;
 
 const MAX: u32 = f32::MAX.to_bits();
 
-pub fn run() -> Result<String, String> {
+/// A sample of the patterns, and those where a root may go wrong.
+pub fn sample() -> Result<String, String> {
     let mut count = 0u32;
     let mut out = [0; OUT_BYTES];
     let mut root = |bits: u32| {
@@ -20,16 +22,9 @@ pub fn run() -> Result<String, String> {
         check(Call::Root, &bits.to_le_bytes(), &mut out)
     };
 
-    for bits in (0..=MAX).step_by(STRIDE) {
+    for bits in patterns::sample(MAX, STRIDE).chain([(-0f32).to_bits()]) {
         root(bits)?;
     }
-    // The ends of the range, -0, and both ends of the subnormal numbers.
-    for i in 0..4096 {
-        root(i)?;
-        root(MAX - i)?;
-        root(f32::MIN_POSITIVE.to_bits() - 2048 + i)?;
-    }
-    root((-0f32).to_bits())?;
     // Powers of two with their neighbours: the subnormal ones, then the others.
     for power in (0..23).map(|i| 1 << i).chain((1..255).map(|i| i << 23)) {
         for bits in power - 1..=power + 1 {
@@ -57,4 +52,11 @@ pub fn run() -> Result<String, String> {
         }
     }
     Ok(format!("{count} patterns, each the hardware's"))
+}
+
+/// Every pattern.
+pub fn sweep() -> Result<String, String> {
+    let count = MAX + 1;
+    halves("root", count, |_: &mut (), bits| check(Call::Root, &bits.to_le_bytes(), &mut [0; OUT_BYTES]).map(|_| ()))?;
+    Ok(format!("root: {count} patterns, each the hardware's"))
 }

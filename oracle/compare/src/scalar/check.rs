@@ -1,10 +1,11 @@
 //! One call compared whole: the number sent and each byte of `out`.
 
-use crate::answer::answer;
+use super::answer::answer;
+use super::{judge, words_of};
 use crate::call::{Call, OUT_BYTES, OUT_WORDS};
-use crate::judge;
+use crate::judge::DONE;
 use crate::viewer;
-use crate::words;
+use crate::words::{self, same};
 
 /// What `out` holds before each call, so that a byte left as it was can be told.
 const BEFORE: u8 = 0xa5;
@@ -13,8 +14,8 @@ const BEFORE: u8 = 0xa5;
 pub fn check(call: Call, args: &[u8], out: &mut [u8]) -> Result<u32, String> {
     let number = judge::number(call, args, out.len());
     let mut want = [0; OUT_WORDS];
-    if number == judge::DONE {
-        want = answer(call, &words::args(args));
+    if number == DONE {
+        want = answer(call, &words_of(args));
     }
     out.fill(BEFORE);
     let sent = viewer::send(call, args, out);
@@ -53,7 +54,7 @@ fn compare_words(call: Call, out: &[u8], want: &[u32; OUT_WORDS]) -> Result<(), 
     for (i, &want) in want.iter().enumerate() {
         let have = words::word(out, i);
         let named = i < call.named_words();
-        if !same(have, want, call.by_bits() || !named) {
+        if !same(have, want, by_bits(call) || !named) {
             let (have, want) = (words::show(have), words::show(want));
             return Err(format!("word {i} of out is {have}, must be {want}"));
         }
@@ -61,9 +62,9 @@ fn compare_words(call: Call, out: &[u8], want: &[u32; OUT_WORDS]) -> Result<(), 
     Ok(())
 }
 
-pub fn same(have: u32, want: u32, by_bits: bool) -> bool {
-    let (h, w) = (f32::from_bits(have), f32::from_bits(want));
-    have == want || (!by_bits && (h == w || (h.is_nan() && w.is_nan())))
+/// Root and arc cosine are settled bit for bit; elsewhere zeros of both signs are equal.
+fn by_bits(call: Call) -> bool {
+    matches!(call, Call::Root | Call::Acos)
 }
 
 fn untouched(bytes: &[u8], first: usize) -> Result<(), String> {

@@ -1,8 +1,8 @@
 //! Distance and bounds of random shapes, equal as floats to the source's.
 
-use crate::call::{Call, MOST_ARGS, OUT_BYTES};
-use crate::check::check;
-use crate::draw;
+use super::check::check;
+use super::{draw, MOST_ARGS};
+use crate::call::{Call, OUT_BYTES};
 use crate::judge::{DONE, KINDS};
 use crate::rng::Rng;
 use crate::words;
@@ -28,7 +28,5 @@ pub fn run() -> Result<String, String> {
     if distances.iter().any(|&n| n < LEAST_OF_A_KIND) {
         return Err(format!("too few distances of some kind: {distances:?}"));
     }
-    Ok(format!(
-        "each the source's; by kind, distances {distances:?}, bounds {bounds:?}"
-    ))
+    Ok(format!("each the source's; by kind, distances {distances:?}, bounds {bounds:?}"))
 }

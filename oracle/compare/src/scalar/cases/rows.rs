@@ -31,11 +31,7 @@ pub fn rows() -> Vec<Row> {
 }
 
 fn root(name: &'static str, x: f32, answer: u32) -> Row {
-    let case = Case {
-        call: Call::Root,
-        args: vec![x.to_bits()],
-        number: DONE,
-    };
+    let case = Case { call: Call::Root, args: vec![x.to_bits()], number: DONE };
     Row { name, case, answer }
 }
 

@@ -39,10 +39,6 @@ impl AcosError {
 impl fmt::Display for AcosError {
     fn fmt(&self, f: &mut fmt::Formatter) -> fmt::Result {
         let at = words::show(self.at);
-        write!(
-            f,
-            "at most {:.3e} from double precision, at {at}",
-            self.distance
-        )
+        write!(f, "at most {:.3e} from double precision, at {at}", self.distance)
     }
 }

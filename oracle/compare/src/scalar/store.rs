@@ -4,11 +4,13 @@
 //! A record is 32 little-endian words: the call (0 root, 1 arc cosine, 2 distance, 3 bounds), the
 //! number that it must send, 14 words of args (unused ones 0), the 16 words of `out`.
 
-use crate::answer::answer;
+use super::answer::answer;
+use super::cases::{degenerate::degenerate, limits::limits, rows::rows, Case};
+use super::draw;
+use super::judge::{self, ACOS};
 use crate::call::{Call, OUT_BYTES, OUT_WORDS};
-use crate::cases::{degenerate::degenerate, limits::limits, rows::rows, Case};
-use crate::draw;
-use crate::judge::{self, DONE, KINDS};
+use crate::draw::within;
+use crate::judge::{DONE, KINDS, RADIUS};
 use crate::rng::Rng;
 use crate::words;
 use std::fs;
@@ -51,11 +53,11 @@ fn records() -> Vec<[u32; RECORD_WORDS]> {
     for _ in 0..ONES {
         let anything = rng.word() >> 1;
         records.push(record(Call::Root, &[anything]));
-        let x = draw::within(&mut rng, judge::RADIUS);
+        let x = within(&mut rng, RADIUS);
         records.push(record(Call::Root, &[x.to_bits()]));
         let x = rng.unit() * 2.0 - 1.0;
         records.push(record(Call::Acos, &[x.to_bits()]));
-        let x = draw::within(&mut rng, judge::ACOS);
+        let x = within(&mut rng, ACOS);
         records.push(record(Call::Acos, &[x.to_bits()]));
     }
     for _ in 0..DISTANCES {
@@ -79,7 +81,7 @@ fn record(call: Call, args: &[u32]) -> [u32; RECORD_WORDS] {
         _ => [0; OUT_WORDS],
     };
     let mut record = [0; RECORD_WORDS];
-    record[0] = Call::ALL.iter().position(|&c| c == call).unwrap() as u32;
+    record[0] = call as u32;
     record[1] = number;
     record[ARGS..ARGS + args.len()].copy_from_slice(args);
     record[OUT..].copy_from_slice(&out);

@@ -1,11 +1,14 @@
 //! Refusals: tables of every length, several reasons at once, and a random mix of all of it.
 
-use crate::call::{Call, MOST_ARGS, OUT_BYTES};
-use crate::cases::limits::{number_of_sound, sound, NOT_FINITE, UNKNOWN_KINDS};
-use crate::cases::prim_args;
-use crate::check::{check, expect};
-use crate::draw;
-use crate::judge::{self, BAD_WORD, CAPSULE, DONE, NO_EXTENT, NO_ROOM, PLANE, WRONG_KIND};
+use super::cases::limits::{number_of_sound, sound};
+use super::cases::prim_args;
+use super::check::{check, expect};
+use super::judge::ACOS;
+use super::{draw, MOST_ARGS};
+use crate::call::{Call, OUT_BYTES};
+use crate::chosen::{NOT_FINITE, UNKNOWN_KINDS};
+use crate::draw::within;
+use crate::judge::*;
 use crate::rng::Rng;
 use crate::words;
 
@@ -16,28 +19,23 @@ const PAST: usize = 24;
 
 pub fn run() -> Result<String, String> {
     let mut count = 0;
-    for call in Call::ALL {
+    for &call in Call::SCALAR {
         count += lengths(call)?;
     }
     count += several_reasons()?;
     let sent = mixed()?;
-    Ok(format!(
-        "{count} lengths and orders; {MIXED} mixed, of each number {sent:?}"
-    ))
+    Ok(format!("{count} lengths and orders; {MIXED} mixed, of each number {sent:?}"))
 }
 
 /// Args that get each number there is for a call whose tables are long enough.
 fn by_content(call: Call) -> Vec<(Vec<u32>, u32)> {
     match call {
-        Call::Root | Call::Acos => vec![
-            (vec![0.75f32.to_bits()], DONE),
-            (vec![NOT_FINITE[0]], BAD_WORD),
-            (vec![(-2f32).to_bits()], BAD_WORD),
-        ],
+        Call::Root | Call::Acos => {
+            vec![(vec![0.75f32.to_bits()], DONE), (vec![NOT_FINITE[0]], BAD_WORD), (vec![(-2f32).to_bits()], BAD_WORD)]
+        }
         Call::PrimDist | Call::PrimBounds => {
-            let mut kinds: Vec<(Vec<u32>, u32)> = (0..judge::KINDS)
-                .map(|kind| (sound(kind), number_of_sound(call, kind)))
-                .collect();
+            let mut kinds: Vec<(Vec<u32>, u32)> =
+                (0..KINDS).map(|kind| (sound(kind), number_of_sound(call, kind))).collect();
             let mut unknown = sound(0);
             unknown[0] = UNKNOWN_KINDS[0];
             kinds.push((unknown, BAD_WORD));
@@ -48,6 +46,7 @@ fn by_content(call: Call) -> Vec<(Vec<u32>, u32)> {
             kinds.push((point_capsule(-0.5), BAD_WORD));
             kinds
         }
+        _ => call.stray(),
     }
 }
 
@@ -115,7 +114,7 @@ fn mixed() -> Result<[usize; 10], String> {
     let mut out = [0; 8 + OUT_BYTES + PAST];
     let mut sent = [0; 10];
     for _ in 0..MIXED {
-        let call = rng.pick(&Call::ALL);
+        let call = rng.pick(Call::SCALAR);
         let words = faulty(&mut rng, call);
         let first = rng.below(8);
         words::put(&mut args[first..], &words);
@@ -132,7 +131,7 @@ fn mixed() -> Result<[usize; 10], String> {
 fn faulty(rng: &mut Rng, call: Call) -> [u32; MOST_ARGS] {
     let mut words = draw::prim_args(rng);
     if matches!(call, Call::Root | Call::Acos) {
-        words[0] = draw::within(rng, judge::ACOS).to_bits();
+        words[0] = within(rng, ACOS).to_bits();
     }
     while rng.one_in(3) {
         let place = rng.below(MOST_ARGS);
