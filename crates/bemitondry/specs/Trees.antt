@@ -37,7 +37,7 @@ unfoldable pub buildNumber : ℕ → Plan → ℕ
 buildNumber before p = ofObjects before p (unless tooDeep (lowEnough p))
 
 -- the reply has the number of nodes; both tables are written whole
-pub record Builds (before : ℕ) (p : Plan) (r : Reply) (nodes′ order′ : List ℕ) : Type 0 where
+pub record BuildLeaves (before : ℕ) (p : Plan) (r : Reply) (nodes′ order′ : List ℕ) : Type 0 where
   pub reply : r ≡ replyOf (buildNumber before p) (oneWord (sizeOf p))
   pub nodes : nodes′ ≡ cond (eqb (buildNumber before p) 0) (nodesWith p noNodes) noNodes
   pub order : order′ ≡ cond (eqb (buildNumber before p) 0) (orderWith p noOrder) noOrder
@@ -68,7 +68,7 @@ offeredNodes w f = listFrom (frontWord w nodesFirst (9 * sizeIn (judgedTree w f)
 abbrev pub offeredOrder : List ℕ → List Float → List ℕ
 offeredOrder w f = listFrom (frontWord w orderFirst (length (planOf w f .objects))) 0 orderPlaces
 
-pub record Offers (before : ℕ) (w : List ℕ) (f : List Float) (r : Reply) (nodes′ order′ : List ℕ) : Type 0 where
+pub record OfferLeaves (before : ℕ) (w : List ℕ) (f : List Float) (r : Reply) (nodes′ order′ : List ℕ) : Type 0 where
   pub reply : r ≡ replyOf (offerNumber before w f) (oneWord (sizeIn (judgedTree w f)))
   pub nodes : nodes′ ≡ cond (eqb (offerNumber before w f) 0) (offeredNodes w f) noNodes
   pub order : order′ ≡ cond (eqb (offerNumber before w f) 0) (offeredOrder w f) noOrder

@@ -6,7 +6,7 @@ ghost use lib.ListN.{length, replicate};
 ghost use Rattle.words.specs.Lists.{listFrom};
 ghost use Rattle.plan.specs.Plan.{planOf};
 ghost use Rattle.bemitondry.specs.Entries.{addedReply, MaterialEnters, LightEnters, PieceEnters};
-ghost use Rattle.bemitondry.specs.Trees.{Builds, sizeIn, frontWord, judgedTree, offeredTree, Offers};
+ghost use Rattle.bemitondry.specs.Trees.{BuildLeaves, sizeIn, frontWord, judgedTree, offeredTree, OfferLeaves};
 ghost use Rattle.bemitondry.specs.Calls.{floatReply, boxReply, foundReply, rootReply, acosReply, primDistReply, primBoundsReply, treeNumber, queryNumber, queryReply, distMatNumber, distMatReply};
 use bvh_rules::Nodes;
 use bvh_rules::Order;
@@ -216,7 +216,7 @@ fn clear(ws: &mut [u32])
 
 // The tree of the plan's objects, in tables of its own; where it is not built or is too deep they are all zero.
 pub fn build(before: u32, ws: &Words, fs: &Floats, nw: &mut Nodes, ow: &mut Order) -> Reply
-    ensures { λ r. ⌜ Builds before (planOf (now (ws .entry)) (now (fs .entry))) r (now (nw .exit)) (now (ow .exit)) ⌝ }
+    ensures { λ r. ⌜ BuildLeaves before (planOf (now (ws .entry)) (now (fs .entry))) r (now (nw .exit)) (now (ow .exit)) ⌝ }
 {
     clear(nw);
     clear(ow);
@@ -274,7 +274,7 @@ fn offered_number(s: Sub, ws: &Words, fs: &Floats) -> u32
 
 // The tree offered as the table's nodes and order: where it is accepted, its words in tables of their own with zeros past them; else zeros.
 pub fn offer(before: u32, ws: &Words, fs: &Floats, nw: &mut Nodes, ow: &mut Order) -> Reply
-    ensures { λ r. ⌜ Offers before (now (ws .entry)) (now (fs .entry)) r (now (nw .exit)) (now (ow .exit)) ⌝ }
+    ensures { λ r. ⌜ OfferLeaves before (now (ws .entry)) (now (fs .entry)) r (now (nw .exit)) (now (ow .exit)) ⌝ }
 {
     let o = plan_test::objects_number(ws, fs);
     if o == 0 {
