@@ -1,5 +1,5 @@
--- Boxes in order: `inside` is reflexive and transitive on finite boxes, a merge is the least box around two and the hull the least around a list. By the laws of
--- the corners, and induction on the list. Assumes nothing.
+-- Boxes in order: `inside` is reflexive and transitive on finite boxes, a merge is the least box around two and the
+-- hull the least around a list. By the laws of the corners, and induction on the list. Assumes nothing.
 use Prim.Native.Nat.{ℕ, zero, suc, _<_, suc-le-suc}
 use mathlib.Core.Path.{_≡_, refl, sym, subst}
 use mathlib.Core.List.{List, [], _∷_, _++_}
@@ -13,7 +13,10 @@ use Rattle.vec.specs.Vec.{vsplat, vmin, vmax}
 use Rattle.sdf.specs.declared.Aabb.{Aabb}
 use Rattle.refusals.specs.Ranges.{greatest, within}
 use Rattle.bvh_boxes.specs.Boxes.{finiteBox, atMost, inside, nowhere, merge, hullFrom, boxAt}
-use Rattle.bvh_boxes.proofs.Vectors.{Below, Finite, below-of, of-below, finite-of, of-finite, at-least, at-most, finite-numbers, fmin-top, fmax-bottom, below-refl, below-trans, vmin-left, vmin-right, vmin-greatest, vmax-left, vmax-right, vmax-least, vmin-finite, vmax-finite}
+use Rattle.bvh_boxes.proofs.Vectors.{Below, Finite, below-of, of-below, finite-of, of-finite, at-least, at-most}
+use Rattle.bvh_boxes.proofs.Vectors.{finite-numbers, fmin-top, fmax-bottom, below-refl, below-trans, vmin-left}
+use Rattle.bvh_boxes.proofs.Vectors.{vmin-right, vmin-greatest, vmax-left, vmax-right, vmax-least, vmin-finite}
+use Rattle.bvh_boxes.proofs.Vectors.{vmax-finite}
 
 -- ---- a test of boxes is one of each corner
 module _ (a b : Aabb) (h : T (inside a b)) where
@@ -27,7 +30,8 @@ module _ (a b : Aabb) (h : T (inside a b)) where
 
 inside-by : (a b : Aabb) → Below (b .lo) (a .lo) → Below (a .hi) (b .hi) → T (inside a b)
 unfolding inside
-inside-by a b h k = and-i (atMost (b .lo) (a .lo)) (atMost (a .hi) (b .hi)) (of-below (b .lo) (a .lo) h) (of-below (a .hi) (b .hi) k)
+inside-by a b h k =
+    and-i (atMost (b .lo) (a .lo)) (atMost (a .hi) (b .hi)) (of-below (b .lo) (a .lo) h) (of-below (a .hi) (b .hi) k)
 
 module _ (a : Aabb) (h : T (finiteBox a)) where
   pub finite-lo : Finite (a .lo)
@@ -127,7 +131,8 @@ AllInside bs c = (i : ℕ) → i < length bs → T (inside (boxAt bs i) c)
 pub hull-finite : (a : Aabb) (bs : List Aabb) → T (finiteBox a) → AllFinite bs → T (finiteBox (hullFrom a bs))
 unfolding hullFrom
 hull-finite a [] h k = h
-hull-finite a (b ∷ bs) h k = hull-finite (merge a b) bs (merge-finite a b h (k 0 (zero-lt-suc (length bs)))) (λ i l. k (suc i) (suc-le-suc l))
+hull-finite a (b ∷ bs) h k =
+    hull-finite (merge a b) bs (merge-finite a b h (k 0 (zero-lt-suc (length bs)))) (λ i l. k (suc i) (suc-le-suc l))
 
 pub hull-start : (a : Aabb) (bs : List Aabb) → T (finiteBox a) → AllFinite bs → T (inside a (hullFrom a bs))
 unfolding hullFrom
@@ -165,7 +170,8 @@ hull-inside bs c h = hull-least nowhere bs c (nowhere-inside c h)
 abbrev pub StandIn : List Aabb → List Aabb → Type 0
 StandIn xs ys = (i : ℕ) → i < length xs → (j : ℕ) × (j < length ys) × (boxAt xs i ≡ boxAt ys j)
 
-pub hull-of-some : (xs ys : List Aabb) → AllFinite ys → StandIn xs ys → T (inside (hullFrom nowhere xs) (hullFrom nowhere ys))
+pub hull-of-some
+    : (xs ys : List Aabb) → AllFinite ys → StandIn xs ys → T (inside (hullFrom nowhere xs) (hullFrom nowhere ys))
 hull-of-some xs ys h k = hull-inside xs (hullFrom nowhere ys) (hull-whole ys h) each
   where
     each : AllInside xs (hullFrom nowhere ys)

@@ -1,6 +1,7 @@
--- The boxes of a plan's objects: how many, and of a table's plan the box at a place and past the last, by the laws of lists made of a function. Assumes nothing.
+-- The boxes of a plan's objects: how many, and of a table's plan the box at a place and past the last, by the laws of
+-- lists made of a function. Assumes nothing.
 use Prim.Native.Nat.{ℕ, zero, suc, _+_, _<_, _≤_}
-use mathlib.Core.Path.{_≡_, refl, _∙_, ap}
+use mathlib.Core.Path.{_≡_, refl, ap}
 use mathlib.Core.List.{List, _∷_, map}
 use lib.ListN.{length, length-map}
 use lib.Ieee.{Float}

@@ -1,5 +1,5 @@
--- Vectors by component: a test of a whole vector is three tests, and `vmin` and `vmax` are the greatest below both and the least above both. By the laws of each
--- component. Assumes nothing.
+-- Vectors by component: a test of a whole vector is three tests, and `vmin` and `vmax` are the greatest below both and
+-- the least above both. By the laws of each component. Assumes nothing.
 use mathlib.Core.Path.{_≡_}
 use mathlib.Core.Bool.{Bool, _&&_}
 use lib.Dec.{T}
@@ -12,7 +12,8 @@ use Rattle.vec.specs.Vec.{vmin, vmax}
 use Rattle.refusals.specs.Ranges.{greatest, within}
 use Rattle.float_order.specs.Order.{number}
 use Rattle.float_order.proofs.Order.{is-yes, is-not, number-eq, le-right, le-refl, le-trans, lt-not-le}
-use Rattle.float_order.proofs.Extremes.{fmin-either, fmin-left, fmin-right, fmin-greatest, fmax-either, fmax-left, fmax-right, fmax-least}
+use Rattle.float_order.proofs.Extremes.{fmin-either, fmin-left, fmin-right, fmin-greatest, fmax-either, fmax-left}
+use Rattle.float_order.proofs.Extremes.{fmax-right, fmax-least}
 use Rattle.bvh_boxes.specs.Boxes.{atMost}
 
 -- ---- three tests
@@ -22,7 +23,8 @@ pub record Three (p q r : Bool) : Type 0 where
   pub z : T r
 
 pub three : (p q r : Bool) → T (p && (q && r)) → Three p q r
-three p q r h = record { x = and-l p (q && r) h; y = and-l q r (and-r p (q && r) h); z = and-r q r (and-r p (q && r) h) }
+three p q r h =
+    record { x = and-l p (q && r) h; y = and-l q r (and-r p (q && r) h); z = and-r q r (and-r p (q && r) h) }
 
 pub of-three : (p q r : Bool) → Three p q r → T (p && (q && r))
 of-three p q r h = and-i p (q && r) (h .x) (and-i q r (h .y) (h .z))
@@ -70,7 +72,9 @@ finite-is-number : (x : Float) → T (magnitude x greatest) → T (number x)
 finite-is-number x h = le-right (neg greatest) x (at-least x h)
 
 pub finite-numbers : (a : Vec3) → Finite a → Numbers a
-finite-numbers a h = record { x = finite-is-number (a .x) (h .x); y = finite-is-number (a .y) (h .y); z = finite-is-number (a .z) (h .z) }
+finite-numbers a h =
+    record
+    { x = finite-is-number (a .x) (h .x); y = finite-is-number (a .y) (h .y); z = finite-is-number (a .z) (h .z) }
 
 -- f32::MAX is the lesser of no other, and f32::MIN the greater
 pub fmin-top : (x : Float) → T (magnitude x greatest) → fmin greatest x ≡ x
@@ -97,11 +101,15 @@ below-trans a b c h k =
 module _ (a b : Vec3) where
   pub vmin-left : Numbers a → Below (vmin a b) a
   unfolding vmin
-  vmin-left n = record { x = fmin-left (a .x) (b .x) (n .x); y = fmin-left (a .y) (b .y) (n .y); z = fmin-left (a .z) (b .z) (n .z) }
+  vmin-left n =
+      record
+      { x = fmin-left (a .x) (b .x) (n .x); y = fmin-left (a .y) (b .y) (n .y); z = fmin-left (a .z) (b .z) (n .z) }
 
   pub vmin-right : Numbers b → Below (vmin a b) b
   unfolding vmin
-  vmin-right n = record { x = fmin-right (a .x) (b .x) (n .x); y = fmin-right (a .y) (b .y) (n .y); z = fmin-right (a .z) (b .z) (n .z) }
+  vmin-right n =
+      record
+      { x = fmin-right (a .x) (b .x) (n .x); y = fmin-right (a .y) (b .y) (n .y); z = fmin-right (a .z) (b .z) (n .z) }
 
   pub vmin-greatest : (c : Vec3) → Below c a → Below c b → Below c (vmin a b)
   unfolding vmin
@@ -114,11 +122,15 @@ module _ (a b : Vec3) where
 
   pub vmax-left : Numbers a → Below a (vmax a b)
   unfolding vmax
-  vmax-left n = record { x = fmax-left (a .x) (b .x) (n .x); y = fmax-left (a .y) (b .y) (n .y); z = fmax-left (a .z) (b .z) (n .z) }
+  vmax-left n =
+      record
+      { x = fmax-left (a .x) (b .x) (n .x); y = fmax-left (a .y) (b .y) (n .y); z = fmax-left (a .z) (b .z) (n .z) }
 
   pub vmax-right : Numbers b → Below b (vmax a b)
   unfolding vmax
-  vmax-right n = record { x = fmax-right (a .x) (b .x) (n .x); y = fmax-right (a .y) (b .y) (n .y); z = fmax-right (a .z) (b .z) (n .z) }
+  vmax-right n =
+      record
+      { x = fmax-right (a .x) (b .x) (n .x); y = fmax-right (a .y) (b .y) (n .y); z = fmax-right (a .z) (b .z) (n .z) }
 
   pub vmax-least : (c : Vec3) → Below a c → Below b c → Below (vmax a b) c
   unfolding vmax

@@ -1,5 +1,5 @@
--- The boxes of a built tree: each is the hull of its range's objects, so it is finite, holds the boxes of its parts and of its objects, and fits its words.
--- By the two ways of a range: a part's objects are the range's. Assumes nothing.
+-- The boxes of a built tree: each is the hull of its range's objects, so it is finite, holds the boxes of its parts and
+-- of its objects, and fits its words. By the two ways of a range: a part's objects are the range's. Assumes nothing.
 use Prim.Native.Nat.{ℕ, _+_, _-_, _<_}
 use mathlib.Core.Path.{_≡_, refl, sym, ap, subst, subst₂, _∙_}
 use mathlib.Core.Bool.{false}
@@ -22,7 +22,9 @@ use Rattle.bvh_build.proofs.Fitting.{hull-fits}
 
 module _ (bs : List Aabb) where
   -- ---- the boxes of a range's members
-  members-all : (P : Aabb → Type 0) (os : List ℕ) → Each (λ o. P (boxAt bs o)) os → (i : ℕ) → i < length (members bs os) → P (boxAt (members bs os) i)
+  members-all
+      : (P : Aabb → Type 0) (os : List ℕ) → Each (λ o. P (boxAt bs o)) os → (i : ℕ) → i < length (members bs os)
+      → P (boxAt (members bs os) i)
   members-all P os h i l =
       let k : i < length os = omega (arith, members-length bs os) in
       subst P (sym (members-at bs os i k)) (h i k)
@@ -65,7 +67,9 @@ module _ (bs : List Aabb) where
         let k = hull-holds (members bs os) (members-all (λ b. T (finiteBox b)) os h) i (omega (arith, members-length bs os)) in
         subst₂ (λ (a b : Aabb). T (inside a b)) (members-at bs os i l) (sym (span-hull bs os)) k
 
-    part-inside : (xs : List ℕ) (b : Aabb) → Each (Of os) xs → b ≡ hullFrom nowhere (members bs xs) → Each Finite os → T (inside b (spanOf bs os .hull))
+    part-inside
+        : (xs : List ℕ) (b : Aabb) → Each (Of os) xs → b ≡ hullFrom nowhere (members bs xs) → Each Finite os
+        → T (inside b (spanOf bs os .hull))
     part-inside xs b p e h =
         subst₂ (λ (a b : Aabb). T (inside a b)) (sym e) (sym (span-hull bs os))
         (hull-of-some (members bs xs) (members bs os) (members-all (λ b. T (finiteBox b)) os h) (stand-in os xs p))
@@ -86,7 +90,8 @@ module _ (bs : List Aabb) where
         );
       }
 
-  node-tight : (os : List ℕ) → stopsAt bs os ≡ false → (l r : TreeOrder) → Tight (leftPart bs os) l → Tight (rightPart bs os) r
+  node-tight
+      : (os : List ℕ) → stopsAt bs os ≡ false → (l r : TreeOrder) → Tight (leftPart bs os) l → Tight (rightPart bs os) r
       → Tight os (joined (spanOf bs os .hull) l r)
   node-tight os p l r a b =
       record {

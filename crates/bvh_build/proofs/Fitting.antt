@@ -1,4 +1,5 @@
--- Every corner of an object's box, and of a hull of such boxes, is an f32: it is a sum, a difference, a literal, or one of two that are. Assumes nothing.
+-- Every corner of an object's box, and of a hull of such boxes, is an f32: it is a sum, a difference, a literal, or one
+-- of two that are. Assumes nothing.
 use Prim.Native.Nat.{ℕ, zero, suc, _<_}
 use mathlib.Core.List.{List, [], _∷_, map}
 use native.Mathlib.Omega.{arith}
@@ -59,7 +60,8 @@ module _ (a b : Vec3) where
 in-fits : (b : Bounds) (e : Float) → FitBox (boxIn b e)
 unfolding widened
 in-fits (Within b) e = record { lo = vsub-fits (b .lo) (vsplat e); hi = vadd-fits (b .hi) (vsplat e) }
-in-fits Unbounded e = record { lo = splat-fits f0 (ofBits-fits binary32 0); hi = splat-fits f0 (ofBits-fits binary32 0) }
+in-fits Unbounded e =
+    record { lo = splat-fits f0 (ofBits-fits binary32 0); hi = splat-fits f0 (ofBits-fits binary32 0) }
 
 object-fits : (o : Piece) → FitBox (objectBox o)
 unfolding objectBox boxOf
@@ -73,12 +75,15 @@ boxes-fit (o ∷ os) (suc i) l = boxes-fit os i (omega arith)
 -- ---- a hull
 merge-fits : (a b : Aabb) → FitBox a → FitBox b → FitBox (merge a b)
 unfolding merge
-merge-fits a b h k = record { lo = vmin-fits (a .lo) (b .lo) (h .lo) (k .lo); hi = vmax-fits (a .hi) (b .hi) (h .hi) (k .hi) }
+merge-fits a b h k =
+    record { lo = vmin-fits (a .lo) (b .lo) (h .lo) (k .lo); hi = vmax-fits (a .hi) (b .hi) (h .hi) (k .hi) }
 
-from-fits : (a : Aabb) (bs : List Aabb) → FitBox a → ((i : ℕ) → i < length bs → FitBox (boxAt bs i)) → FitBox (hullFrom a bs)
+from-fits
+    : (a : Aabb) (bs : List Aabb) → FitBox a → ((i : ℕ) → i < length bs → FitBox (boxAt bs i)) → FitBox (hullFrom a bs)
 unfolding hullFrom
 from-fits a [] h k = h
-from-fits a (b ∷ bs) h k = from-fits (merge a b) bs (merge-fits a b h (k 0 (omega arith))) (λ i l. k (suc i) (omega arith))
+from-fits a (b ∷ bs) h k =
+    from-fits (merge a b) bs (merge-fits a b h (k 0 (omega arith))) (λ i l. k (suc i) (omega arith))
 
 pub hull-fits : (bs : List Aabb) → ((i : ℕ) → i < length bs → FitBox (boxAt bs i)) → FitBox (hullFrom nowhere bs)
 hull-fits bs =

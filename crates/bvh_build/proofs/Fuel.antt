@@ -1,5 +1,5 @@
--- One level of the builder: a range that stops is a leaf, any other is two smaller ranges joined, and as many calls as there are objects are enough. By
--- `cut-mid` and induction on the calls left. Assumes nothing.
+-- One level of the builder: a range that stops is a leaf, any other is two smaller ranges joined, and as many calls as
+-- there are objects are enough. By `cut-mid` and induction on the calls left. Assumes nothing.
 use Prim.Native.Nat.{ℕ, zero, suc, _+_, _-_, _≤_, _<_}
 use mathlib.Core.Path.{_≡_, refl, sym, ap, subst, _∙_}
 use mathlib.Core.Bool.{Bool, true, false, _||_}
@@ -51,7 +51,9 @@ module _ (bs : List Aabb) (os : List ℕ) where
         length-take-le (cutAt bs os .mid) (cutAt bs os .order) (omega (arith, cut-length bs os (spanOf bs os .centres)))
 
     pub right-length : length (rightPart bs os) ≡ length os - cutAt bs os .mid
-    right-length = length-drop (cutAt bs os .mid) (cutAt bs os .order) ∙ ap (λ (n : ℕ). n - cutAt bs os .mid) (cut-length bs os (spanOf bs os .centres))
+    right-length =
+        length-drop (cutAt bs os .mid) (cutAt bs os .order) ∙ ap (λ (n : ℕ). n - cutAt bs os .mid)
+        (cut-length bs os (spanOf bs os .centres))
 
     pub left-some : 0 < length (leftPart bs os)
     left-some = omega (arith, left-length, mids)
@@ -89,7 +91,9 @@ module _ (bs : List Aabb) (P : List ℕ → TreeOrder → Type 0) (leaf : (os : 
 
 -- ---- as many calls as there are objects are enough
 module _ (bs : List Aabb) where
-  fuel : (k k′ : ℕ) (b : Bool) (os : List ℕ) → stopsAt bs os ≡ b → length os ≤ k → length os ≤ k′ → buildFrom k bs os ≡ buildFrom k′ bs os
+  fuel
+      : (k k′ : ℕ) (b : Bool) (os : List ℕ) → stopsAt bs os ≡ b → length os ≤ k → length os ≤ k′
+      → buildFrom k bs os ≡ buildFrom k′ bs os
   fuel zero k′ true os p h h′ = from-leaf bs os zero p ∙ sym (from-leaf bs os k′ p)
   fuel (suc k) k′ true os p h h′ = from-leaf bs os (suc k) p ∙ sym (from-leaf bs os k′ p)
   fuel zero k′ false os p h h′ = absurd (omega (arith, many-go _ _ p))

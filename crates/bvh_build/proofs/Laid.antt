@@ -1,5 +1,5 @@
--- A list laid over another: in two parts, its length, what is read of it, and two layings that do not meet commute. By induction on what is laid. Assumes
--- nothing.
+-- A list laid over another: in two parts, its length, what is read of it, and two layings that do not meet commute. By
+-- induction on what is laid. Assumes nothing.
 use Prim.Native.Nat.{ℕ, zero, suc, _+_, _≤_, _<_}
 use mathlib.Core.Path.{_≡_, refl, sym, ap, _∙_}
 use mathlib.Core.List.{List, [], _∷_, _++_, append-nil}
@@ -10,7 +10,8 @@ use lib.Seq.{set-out, set-comm, getD-set-same, getD-set-other, sets, sets-eq, dr
 use Rattle.bvh_build.specs.Encode.{laid}
 
 module _ {A : Type 0} where
-  pub laid-append : (xs : List A) (i : ℕ) (ys zs : List A) → laid xs i (ys ++ zs) ≡ laid (laid xs i ys) (i + length ys) zs
+  pub laid-append
+      : (xs : List A) (i : ℕ) (ys zs : List A) → laid xs i (ys ++ zs) ≡ laid (laid xs i ys) (i + length ys) zs
   unfolding laid
   laid-append xs i [] zs = rw add-zero
   laid-append xs i (y ∷ ys) zs =
@@ -18,7 +19,8 @@ module _ {A : Type 0} where
       laid-append (set xs i y) (suc i) ys zs ∙ ap (λ (k : ℕ). laid (laid (set xs i y) (suc i) ys) k zs) e
 
   -- one element more, as a loop lays it
-  pub laid-snoc : (xs : List A) (i : ℕ) (ys : List A) (v : A) → laid xs i (ys ++ (v ∷ [])) ≡ set (laid xs i ys) (i + length ys) v
+  pub laid-snoc
+      : (xs : List A) (i : ℕ) (ys : List A) (v : A) → laid xs i (ys ++ (v ∷ [])) ≡ set (laid xs i ys) (i + length ys) v
   unfolding laid
   laid-snoc xs i ys v = laid-append xs i ys (v ∷ [])
 
@@ -28,13 +30,16 @@ module _ {A : Type 0} where
   length-laid xs i (y ∷ ys) = length-laid (set xs i y) (suc i) ys ∙ length-set xs i y
 
   -- ---- an element before the place of a laying, and two layings that do not meet
-  pub set-laid : (xs : List A) (k : ℕ) (v : A) (i : ℕ) (ys : List A) → k < i → laid (set xs k v) i ys ≡ set (laid xs i ys) k v
+  pub set-laid
+      : (xs : List A) (k : ℕ) (v : A) (i : ℕ) (ys : List A) → k < i → laid (set xs k v) i ys ≡ set (laid xs i ys) k v
   unfolding laid
   set-laid xs k v i [] h = refl
   set-laid xs k v i (y ∷ ys) h =
       ap (λ (l : List A). laid l (suc i) ys) (set-comm xs k i v y (λ e. omega arith)) ∙ set-laid (set xs i y) k v (suc i) ys (omega arith)
 
-  pub laid-laid : (xs : List A) (i j : ℕ) (ys zs : List A) → i + length ys ≤ j → laid (laid xs j zs) i ys ≡ laid (laid xs i ys) j zs
+  pub laid-laid
+      : (xs : List A) (i j : ℕ) (ys zs : List A) → i + length ys ≤ j
+      → laid (laid xs j zs) i ys ≡ laid (laid xs i ys) j zs
   unfolding laid
   laid-laid xs i j [] zs h = refl
   laid-laid xs i j (y ∷ ys) zs h =
@@ -50,14 +55,19 @@ module _ {A : Type 0} where
   pub laid-before : (xs : List A) (i : ℕ) (ys : List A) (j : ℕ) (d : A) → j < i → getD (laid xs i ys) j d ≡ getD xs j d
   unfolding laid
   laid-before xs i [] j d h = refl
-  laid-before xs i (y ∷ ys) j d h = laid-before (set xs i y) (suc i) ys j d (omega arith) ∙ getD-set-other xs i j y d (λ e. omega arith)
+  laid-before xs i (y ∷ ys) j d h =
+      laid-before (set xs i y) (suc i) ys j d (omega arith) ∙ getD-set-other xs i j y d (λ e. omega arith)
 
-  pub laid-after : (xs : List A) (i : ℕ) (ys : List A) (j : ℕ) (d : A) → i + length ys ≤ j → getD (laid xs i ys) j d ≡ getD xs j d
+  pub laid-after
+      : (xs : List A) (i : ℕ) (ys : List A) (j : ℕ) (d : A) → i + length ys ≤ j → getD (laid xs i ys) j d ≡ getD xs j d
   unfolding laid
   laid-after xs i [] j d h = refl
-  laid-after xs i (y ∷ ys) j d h = laid-after (set xs i y) (suc i) ys j d (omega arith) ∙ getD-set-other xs i j y d (λ e. omega arith)
+  laid-after xs i (y ∷ ys) j d h =
+      laid-after (set xs i y) (suc i) ys j d (omega arith) ∙ getD-set-other xs i j y d (λ e. omega arith)
 
-  pub laid-here : (xs : List A) (i : ℕ) (ys : List A) (k : ℕ) (d : A) → k < length ys → i + k < length xs → getD (laid xs i ys) (i + k) d ≡ getD ys k d
+  pub laid-here
+      : (xs : List A) (i : ℕ) (ys : List A) (k : ℕ) (d : A) → k < length ys → i + k < length xs
+      → getD (laid xs i ys) (i + k) d ≡ getD ys k d
   unfolding laid
   laid-here xs i [] k d h l = absurd (omega arith)
   laid-here xs i (y ∷ ys) zero d h l =
@@ -78,4 +88,5 @@ module _ {A : Type 0} where
       laid-sets xs 0 ys ∙ sets-eq ys xs 0 (omega arith) ∙ ap (λ (n : ℕ). ys ++ drop n xs) e
 
   pub laid-all : (xs ys : List A) → length ys ≡ length xs → laid xs 0 ys ≡ ys
-  laid-all xs ys h = laid-front xs ys (omega arith) ∙ ap (λ (n : ℕ). ys ++ drop n xs) h ∙ rw (drop-length xs) (append-nil ys)
+  laid-all xs ys h =
+      laid-front xs ys (omega arith) ∙ ap (λ (n : ℕ). ys ++ drop n xs) h ∙ rw (drop-length xs) (append-nil ys)

@@ -1,5 +1,6 @@
--- One call of `build_recursive`, over plain lists: with no room, at a leaf, and at a node whose two parts are built. A node's words lie before its left
--- part's, so it does not matter which is written first. By the laws of one level and of `laid`. Assumes nothing.
+-- One call of `build_recursive`, over plain lists: with no room, at a leaf, and at a node whose two parts are built. A
+-- node's words lie before its left part's, so it does not matter which is written first. By the laws of one level and
+-- of `laid`. Assumes nothing.
 use Prim.Native.Nat.{ℕ, _+_, _-_, _*_, _%_, _^_, _≤_, _<_}
 use mathlib.Core.Path.{_≡_, refl, sym, ap, subst, _∙_}
 use mathlib.Core.Bool.{Bool, true, false, _&&_}
@@ -99,7 +100,8 @@ module _ (os ps ol : List ℕ) (m : ℕ) (k : Cut os ps m) (e : length ol ≡ le
       rw (drop-at ol (drop m ps) m lm, take-at ol (drop m ps) m lm, lx) (rw (drop-length (drop m ps)) (simp append-nil))
 
 -- ---- one call
-pub lays-none : (bs : List Aabb) (os nw : List ℕ) (at s levels : ℕ) (r : Built) (nw′ os′ : List ℕ) → 511 ≤ at → Room os at s
+pub lays-none
+    : (bs : List Aabb) (os nw : List ℕ) (at s levels : ℕ) (r : Built) (nw′ os′ : List ℕ) → 511 ≤ at → Room os at s
     → Lays (buildOf bs os) nw at s levels r nw′ os′
 lays-none bs os nw at s levels r nw′ os′ h room = absurd (omega (arith, room .some, room .nodes))
 
@@ -108,7 +110,9 @@ module _ (bs : List Aabb) (os : List ℕ) (sp : Span) (e : Vec3) (t : Bool) (p :
   tested : (v : Bool) → t ≡ v → stopsAt bs os ≡ v
   tested v q = sym (pt ∙ rw (pe, p)) ∙ q
 
-  pub cut-known : (m : ℕ) (ps : List ℕ) → t ≡ false → (m ≡ cutOf bs os (sp .centres) .mid) × (ps ≡ cutOf bs os (sp .centres) .order) → Cut os ps m
+  pub cut-known
+      : (m : ℕ) (ps : List ℕ) → t ≡ false
+      → (m ≡ cutOf bs os (sp .centres) .mid) × (ps ≡ cutOf bs os (sp .centres) .order) → Cut os ps m
   cut-known m ps q c =
       let i = cut-mid bs os (sp .centres) (many-go (length os) _ (tested false q)) in
       let n : length ps ≡ length os = ap length (c .1) ∙ cut-length bs os (sp .centres) in
@@ -120,7 +124,9 @@ module _ (bs : List Aabb) (os : List ℕ) (sp : Span) (e : Vec3) (t : Bool) (p :
       }
 
   module _ (nw : List ℕ) (at s levels : ℕ) where
-    pub lays-leaf : (w n : ℕ) (nw′ : List ℕ) → t ≡ true → w ≡ low32 s → n ≡ low32 (length os) → nw′ ≡ laid nw (9 * at) (nodeWords (sp .hull) w n 0) → Room os at s
+    pub lays-leaf
+        : (w n : ℕ) (nw′ : List ℕ) → t ≡ true → w ≡ low32 s → n ≡ low32 (length os)
+        → nw′ ≡ laid nw (9 * at) (nodeWords (sp .hull) w n 0) → Room os at s
         → Lays (buildOf bs os) nw at s levels (record { next = at + 1; low = ltb 0 levels }) nw′ os
     unfolding encode lowOf
     lays-leaf w n nw′ q ew en enw room =
@@ -138,7 +144,11 @@ module _ (bs : List Aabb) (os : List ℕ) (sp : Span) (e : Vec3) (t : Bool) (p :
         → second ≡ (s + m) % 2 ^ 64
         → (Room (rest m (ol ++ drop m ps)) (l .next) second → Lays (buildOf bs (rest m (ol ++ drop m ps))) nw₂ (l .next) second below r nw₃ or)
         → low ≡ l .low && r .low → Room os at s
-        → Lays (buildOf bs os) nw at s levels (record { next = r .next; low = low }) nw₃ (putMid m (length (ol ++ drop m ps) - m) (ol ++ drop m ps) or)
+        → Lays (buildOf bs os) nw at s levels (record {
+          next =
+              r .next;
+          low = low;
+        }) nw₃ (putMid m (length (ol ++ drop m ps) - m) (ol ++ drop m ps) or)
     lays-node m ps below l nw₁ ol right nw₂ second r nw₃ or low q c eb A len er e₂ es B el room =
         let k = cut-known m ps q c in
         let lp : take m ps ≡ leftPart bs os = rw (c .0, c .1, p) in

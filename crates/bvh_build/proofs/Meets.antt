@@ -1,5 +1,5 @@
--- Whatever the builder builds meets every tree rule but perhaps depth, and its answer tells whether it meets that one. By the laws of its words, its boxes and
--- its order. Assumes nothing.
+-- Whatever the builder builds meets every tree rule but perhaps depth, and its answer tells whether it meets that one.
+-- By the laws of its words, its boxes and its order. Assumes nothing.
 use Prim.Native.Nat.{ℕ, _≤_, _<_}
 use mathlib.Core.Path.{_≡_, refl, sym, _∙_}
 use mathlib.Core.Logic.{_⊎_, inl, inr}
@@ -77,7 +77,8 @@ module _ (a : Plan) where
   box-fits = boxes-fit (a .objects)
 
   -- ---- in tables of any words
-  module _ (s : SoundObjects a) (nodes order : List ℕ) (ln : length nodes ≡ 4599) (lo : length order ≡ 256) (some : 0 < length (a .objects)) where
+  module _ (s : SoundObjects a) (nodes order : List ℕ) (ln : length nodes ≡ 4599) (lo : length order ≡ 256)
+      (some : 0 < length (a .objects)) where
     abbrev W : List ℕ
     W = nodesWith a nodes
 

@@ -1,4 +1,5 @@
--- What is built depends on the boxes of the range's objects only. By one step of each definition, and induction on the calls left. Assumes nothing.
+-- What is built depends on the boxes of the range's objects only. By one step of each definition, and induction on the
+-- calls left. Assumes nothing.
 use Prim.Native.Nat.{ℕ, zero, suc, _+_, _<_}
 use mathlib.Core.Path.{_≡_, refl, sym, ap, _∙_}
 use mathlib.Core.Bool.{Bool, true, false, cond}
@@ -88,10 +89,12 @@ module _ (bs cs : List Aabb) where
   leaf-same : (os : List ℕ) → Each Alike os → leafOf bs os ≡ leafOf cs os
   leaf-same os h = ap (λ (s : Span). record { tree = leaf (s .hull) (length os); order = os }) (span-same os h)
 
-  from-same : (k : ℕ) (b : Bool) (os : List ℕ) → stopsAt bs os ≡ b → Each Alike os → buildFrom k bs os ≡ buildFrom k cs os
+  from-same
+      : (k : ℕ) (b : Bool) (os : List ℕ) → stopsAt bs os ≡ b → Each Alike os → buildFrom k bs os ≡ buildFrom k cs os
   unfolding buildFrom
   from-same zero b os p h = leaf-same os h
-  from-same (suc k) true os p h = from-leaf bs os (suc k) p ∙ leaf-same os h ∙ sym (from-leaf cs os (suc k) (sym (stops-same os h) ∙ p))
+  from-same (suc k) true os p h =
+      from-leaf bs os (suc k) p ∙ leaf-same os h ∙ sym (from-leaf cs os (suc k) (sym (stops-same os h) ∙ p))
   from-same (suc k) false os p h =
       let l = from-same k _ (leftPart bs os) refl (left-all bs os Alike h) in
       let r = from-same k _ (rightPart bs os) refl (right-all bs os Alike h) in

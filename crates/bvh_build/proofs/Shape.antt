@@ -1,5 +1,6 @@
--- The tree of a range: it weighs what the range has, has fewer than twice as many nodes, no empty leaf, and its order is the range's objects. And the words
--- of a tree: nine to a node. By induction on the tree, and by the two ways of a range. Assumes nothing.
+-- The tree of a range: it weighs what the range has, has fewer than twice as many nodes, no empty leaf, and its order
+-- is the range's objects. And the words of a tree: nine to a node. By induction on the tree, and by the two ways of a
+-- range. Assumes nothing.
 use Prim.Native.Nat.{ℕ, _+_, _-_, _*_, _≤_, _<_, max}
 use mathlib.Core.Path.{_≡_, refl, sym}
 use mathlib.Core.Bool.{Bool, true, false, _&&_}
@@ -15,7 +16,8 @@ use Rattle.bvh_split.proofs.Perms.{Perm, perm-length, perm-halves}
 use Rattle.bvh_split.proofs.Cuts.{cut-once}
 use Rattle.bvh_build.specs.Build.{TreeOrder, leafOf, joined, buildOf}
 use Rattle.bvh_build.specs.Encode.{encode, lowOf}
-use Rattle.bvh_build.proofs.Fuel.{stopsAt, cutAt, leftPart, rightPart, left-some, right-some, parts-length, build-each}
+use Rattle.bvh_build.proofs.Fuel.{stopsAt, cutAt, leftPart, rightPart, left-some, right-some, parts-length}
+use Rattle.bvh_build.proofs.Fuel.{build-each}
 
 -- every leaf has a count above 0
 abbrev pub Filled : Tree → Type 0
@@ -32,7 +34,8 @@ module _ (bs : List Aabb) where
   leaf-shape : (os : List ℕ) → Shape os (leafOf bs os)
   leaf-shape os = record { weighs = refl; sized = λ h. omega arith; filled = λ h. h; once = Permᴰ·refl os }
 
-  node-shape : (os : List ℕ) → stopsAt bs os ≡ false → (l r : TreeOrder) → Shape (leftPart bs os) l → Shape (rightPart bs os) r
+  node-shape
+      : (os : List ℕ) → stopsAt bs os ≡ false → (l r : TreeOrder) → Shape (leftPart bs os) l → Shape (rightPart bs os) r
       → Shape os (joined (spanOf bs os .hull) l r)
   node-shape os p l r a b =
       let n = parts-length bs os p in

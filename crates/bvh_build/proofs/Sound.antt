@@ -1,5 +1,5 @@
--- The boxes of sound objects are finite: coordinates, radii and blend are at most 10,000, so corners are at most 40,000. By the bounds of sums and differences.
--- Assumes nothing.
+-- The boxes of sound objects are finite: coordinates, radii and blend are at most 10,000, so corners are at most
+-- 40,000. By the bounds of sums and differences. Assumes nothing.
 use Prim.Native.Nat.{ℕ, zero, suc, _+_, _*_, _^_, _<_, _≤_}
 use mathlib.Core.Path.{refl, sym, subst}
 use mathlib.Core.Bool.{false, _&&_}
@@ -25,7 +25,8 @@ use Rattle.words.specs.Lists.{All}
 use Rattle.plan.specs.Plan.{Piece, Plan}
 use Rattle.float_order.specs.Order.{Within, Held}
 use Rattle.float_order.proofs.Rounding.{zero-is}
-use Rattle.float_order.proofs.Bounds.{within-more, within-of, within-of-plus, within-le, within-ge, add-within, sub-within, fmax-within, fmin-within, held-whole}
+use Rattle.float_order.proofs.Bounds.{within-more, within-of, within-of-plus, within-le, within-ge, add-within}
+use Rattle.float_order.proofs.Bounds.{sub-within, fmax-within, fmin-within, held-whole}
 use Rattle.plan_test.specs.Exact.{PieceOk, SoundObjects}
 use Rattle.bvh_boxes.specs.Boxes.{finiteBox, objectBox, boxesOf, boxAt}
 use Rattle.bvh_boxes.proofs.Vectors.{Finite, three, bounded}
@@ -72,7 +73,9 @@ radii-within v h =
     record { x = radius-within (v .x) (t .x); y = radius-within (v .y) (t .y); z = radius-within (v .z) (t .z) }
 
 more3 : (a b : ℕ) (v : Vec3) → a ≤ b → Within3 a v → Within3 b v
-more3 a b v h w = record { x = within-more a b (v .x) h (w .x); y = within-more a b (v .y) h (w .y); z = within-more a b (v .z) h (w .z) }
+more3 a b v h w =
+    record
+    { x = within-more a b (v .x) h (w .x); y = within-more a b (v .y) h (w .y); z = within-more a b (v .z) h (w .z) }
 
 splat-within : (b : ℕ) (x : Float) → Within b x → Within3 b (vsplat x)
 unfolding vsplat
@@ -128,7 +131,9 @@ held-40000 : Held binary32 40000
 held-40000 = held-whole binary32 40000 (lit≤ tt)
 
 -- corners lo and hi, e further out
-out : (lo hi e : Vec3) → Within3 10000 lo → Within3 10000 hi → Within3 20000 e → BoxWithin 30000 (record { lo = vsub lo e; hi = vadd hi e })
+out
+    : (lo hi e : Vec3) → Within3 10000 lo → Within3 10000 hi → Within3 20000 e
+    → BoxWithin 30000 (record { lo = vsub lo e; hi = vadd hi e })
 out lo hi e p q r =
     record {
       lo = vsub-within 10000 20000 30000 held-30000 (lit≤ tt) lo e p r;
@@ -147,12 +152,15 @@ spread-within : (c e : Vec3) → Within3 10000 c → Within3 20000 e → BoxWith
 unfolding spread
 spread-within c e p q = out c c e p p q
 
-around-within : (a b : Vec3) (r : Float) → Within3 10000 a → Within3 10000 b → Within 10000 r → BoxWithin 30000 (around a b r)
+around-within
+    : (a b : Vec3) (r : Float) → Within3 10000 a → Within3 10000 b → Within 10000 r → BoxWithin 30000 (around a b r)
 unfolding around
 around-within a b r p q w =
     out (vmin a b) (vmax a b) (vsplat r) (vmin-within 10000 a b p q) (vmax-within 10000 a b p q) (more3 10000 20000 (vsplat r) (lit≤ tt) (splat-within 10000 r w))
 
-torus-within : (major minor : Float) → Within 10000 major → Within 10000 minor → Within3 20000 (record { x = major ⊕ minor; y = minor; z = major ⊕ minor })
+torus-within
+    : (major minor : Float) → Within 10000 major → Within 10000 minor
+    → Within3 20000 (record { x = major ⊕ minor; y = minor; z = major ⊕ minor })
 torus-within major minor p q =
     let s = add-within binary32 10000 10000 20000 (held-whole binary32 20000 (lit≤ tt)) major minor p q (lit≤ tt) in
     record { x = s; y = within-more 10000 20000 minor (lit≤ tt) q; z = s }

@@ -1,5 +1,5 @@
--- A tree's words in the nodes table are the tree standing there: nine words to a node are read back, and a float that fits comes back from its bits. By
--- induction on the tree. Assumes nothing.
+-- A tree's words in the nodes table are the tree standing there: nine words to a node are read back, and a float that
+-- fits comes back from its bits. By induction on the tree. Assumes nothing.
 use Prim.Native.Nat.{ℕ, _+_, _*_, _≤_, _<_}
 use mathlib.Core.Path.{_≡_, sym, ap, _∙_}
 use mathlib.Core.List.{List, _++_}
@@ -31,7 +31,8 @@ reads-laid xs i ys h k l = laid-here xs i ys k 0 l (omega arith)
 pub reads-left : (xs : List ℕ) (i : ℕ) (ys zs : List ℕ) → Reads xs i (ys ++ zs) → Reads xs i ys
 reads-left xs i ys zs r k l = r k (omega (arith, length-append ys zs)) ∙ List·getD-append ys zs 0 k l
 
-pub reads-right : (xs : List ℕ) (i : ℕ) (ys zs : List ℕ) (j : ℕ) → j ≡ i + length ys → Reads xs i (ys ++ zs) → Reads xs j zs
+pub reads-right
+    : (xs : List ℕ) (i : ℕ) (ys zs : List ℕ) (j : ℕ) → j ≡ i + length ys → Reads xs i (ys ++ zs) → Reads xs j zs
 reads-right xs i ys zs j e r k l =
     let p : j + k ≡ i + (length ys + k) = omega arith in
     ap (λ (n : ℕ). getD xs n 0) p ∙ r (length ys + k) (omega (arith, length-append ys zs)) ∙ getD-append-add ys zs k 0
@@ -55,7 +56,9 @@ module _ (w : List ℕ) (n : ℕ) where
       let z : 0 + i ≡ i = omega arith in
       getD-from (floatAt w) 0 n i nan h ∙ ap (floatAt w) z ∙ ap (ofBits binary32) e ∙ ofBits-toBits binary32 x g
 
-  node-reads : (at : ℕ) (b : Aabb) (start count right : ℕ) → 9 * at + 9 ≤ n → FitBox b → Reads w (9 * at) (nodeWords b start count right)
+  node-reads
+      : (at : ℕ) (b : Aabb) (start count right : ℕ) → 9 * at + 9 ≤ n → FitBox b
+      → Reads w (9 * at) (nodeWords b start count right)
       → nodeAt w (floatsOf w n) at ≡ record { hull = b; start = start; count = count; right = right }
   unfolding nodeAt
   node-reads at b start count right h g r =
@@ -73,7 +76,8 @@ module _ (w : List ℕ) (n : ℕ) where
       )
 
   -- ---- the tree at place `at` whose first leaf starts at s
-  pub stands-here : (t : Tree) (at s : ℕ) → 9 * at + 9 * size t ≤ n → Filled t → FitTree t → Reads w (9 * at) (encode t at s)
+  pub stands-here
+      : (t : Tree) (at s : ℕ) → 9 * at + 9 * size t ≤ n → Filled t → FitTree t → Reads w (9 * at) (encode t at s)
       → Stands w (floatsOf w n) at s t
   unfolding encode
   stands-here (leaf b c) at s h p g r = (node-reads at b s c 0 h g r, p)

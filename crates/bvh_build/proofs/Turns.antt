@@ -1,4 +1,5 @@
--- What the code's loops and stores leave: a node's nine words, and the boxes put one by one. By the laws of `laid`. Assumes nothing.
+-- What the code's loops and stores leave: a node's nine words, and the boxes put one by one. By the laws of `laid`.
+-- Assumes nothing.
 use Prim.Native.Nat.{ℕ, suc, _+_, _≤_, _<_}
 use mathlib.Core.Path.{_≡_, refl, sym, ap, _∙_}
 use mathlib.Core.List.{List, [], _∷_, _++_}

@@ -1,5 +1,5 @@
--- The build of a plan: the table that the code fills has the boxes of the plan's objects, its numbers are theirs, and the parts past them stand. By the laws
--- of `laid` and of what a build depends on. Assumes nothing.
+-- The build of a plan: the table that the code fills has the boxes of the plan's objects, its numbers are theirs, and
+-- the parts past them stand. By the laws of `laid` and of what a build depends on. Assumes nothing.
 use Prim.Native.Nat.{ℕ, _+_, _*_, _/_, _≤_, _<_}
 use mathlib.Core.Path.{_≡_, sym, ap, subst, _∙_}
 use mathlib.Core.Bool.{true}
@@ -63,12 +63,17 @@ lays-plan a zs bs n os nw nw′ os′ r eb eo L ez en pos h =
     (L (record { some = omega arith; nodes = omega arith; places = omega arith }))
 
 -- ---- a table of floats that are all one
-pub table-of : (n : ℕ) (x : Float) → tableBoxes (replicate (6 * n) x) ≡ replicate n (record { lo = vsplat x; hi = vsplat x })
+pub table-of
+    : (n : ℕ) (x : Float) → tableBoxes (replicate (6 * n) x) ≡ replicate n (record { lo = vsplat x; hi = vsplat x })
 unfolding vsplat
 table-of n x =
     let f = replicate (6 * n) x in
     let k : length f / 6 ≡ n = omega (arith, length-replicate (6 * n) x) in
-    ext-getD noBox (tableBoxes f) (replicate n (record { lo = vsplat x; hi = vsplat x })) (box-count f ∙ k ∙ sym (length-replicate n _)) (λ i h.
+    ext-getD noBox (tableBoxes f) (replicate n (record {
+      lo =
+          vsplat x;
+      hi = vsplat x;
+    })) (box-count f ∙ k ∙ sym (length-replicate n _)) (λ i h.
     let l : i < n = omega (arith, box-count f) in
     let g : (d : ℕ) → d < 6 → getD f (6 * i + d) nan ≡ x = λ d q. getD-replicate (6 * n) (6 * i + d) x nan (omega arith) in
     let z : getD f (6 * i) nan ≡ x = getD-replicate (6 * n) (6 * i) x nan (omega arith) in

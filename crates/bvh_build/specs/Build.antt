@@ -9,7 +9,7 @@ use Rattle.sdf.specs.declared.Aabb.{Aabb}
 use Rattle.bvh_rules.specs.Rules.{Tree, leaf, node}
 use Rattle.bvh_split.specs.declared.Span.{Span}
 use Rattle.bvh_split.specs.Range.{spanOf, extentOf, stops}
-use Rattle.bvh_split.specs.Part.{Parted, cutOf}
+use Rattle.bvh_split.specs.Part.{cutOf}
 
 pub record TreeOrder : Type 0 where
   pub tree : Tree

@@ -1,5 +1,5 @@
--- The walk is good at a place exactly when a tree stands there with its boxes in order, and then it tells the tree's end. By induction on the levels left.
--- Assumes nothing.
+-- The walk is good at a place exactly when a tree stands there with its boxes in order, and then it tells the tree's
+-- end. By induction on the levels left. Assumes nothing.
 use Prim.Native.Nat.{ℕ, zero, suc, _+_, _≤_, _<_}
 use mathlib.Core.Path.{_≡_, refl, sym, _∙_, ap, ap₂, subst, subst₂}
 use mathlib.Core.Logic.{_↔_}
@@ -44,11 +44,14 @@ module _ (w : List ℕ) (f : List Float) (o : List ℕ) (bs : List Aabb) where
     pub few : «end» ≤ length bs
 
   -- ---- a good place holds a tree
-  module _ (level : ℕ) (outer : Aabb) (at s a b : ℕ) (ih : (outer : Aabb) (at s a b : ℕ) → checkOf level w f o bs outer at s ≡ Good a b → Found level outer at s a b) where
+  module _ (level : ℕ) (outer : Aabb) (at s a b : ℕ)
+      (ih : (outer : Aabb) (at s a b : ℕ) → checkOf level w f o bs outer at s ≡ Good a b → Found level outer at s a b) where
     abbrev v : Node
     v = nodeAt w f at
 
-    join : (l r x y : ℕ) → kindOf o bs v outer at s ≡ Inner l r → Found level (v .hull) l s x y → r ≡ x → Found level (v .hull) x y a b → Found (suc level) outer at s a b
+    join
+        : (l r x y : ℕ) → kindOf o bs v outer at s ≡ Inner l r → Found level (v .hull) l s x y → r ≡ x
+        → Found level (v .hull) x y a b → Found (suc level) outer at s a b
     join l r x y k p e q =
         let i = kind-inner-to o bs v outer at s l r k in
         let box = hull-to (v .hull) outer at (i .good) in
@@ -68,15 +71,22 @@ module _ (w : List ℕ) (f : List Float) (o : List ℕ) (bs : List Aabb) where
           few = q .few;
         }
 
-    by-test : (l r x y : ℕ) → kindOf o bs v outer at s ≡ Inner l r → Found level (v .hull) l s x y → (t : Bool) → eqb r x ≡ t → cond t (checkOf level w f o bs (v .hull) x y) Bad ≡ Good a b → Found (suc level) outer at s a b
+    by-test
+        : (l r x y : ℕ) → kindOf o bs v outer at s ≡ Inner l r → Found level (v .hull) l s x y → (t : Bool)
+        → eqb r x ≡ t → cond t (checkOf level w f o bs (v .hull) x y) Bad ≡ Good a b → Found (suc level) outer at s a b
     by-test l r x y k p true e g = join l r x y k p (eqb-true r x e) (ih (v .hull) x y a b g)
     by-test l r x y k p false e g = absurd (bad-good a b g)
 
-    by-left : (l r : ℕ) → kindOf o bs v outer at s ≡ Inner l r → (u : Sub) → checkOf level w f o bs (v .hull) l s ≡ u → then u r (λ next end. checkOf level w f o bs (v .hull) next end) ≡ Good a b → Found (suc level) outer at s a b
+    by-left
+        : (l r : ℕ) → kindOf o bs v outer at s ≡ Inner l r → (u : Sub) → checkOf level w f o bs (v .hull) l s ≡ u
+        → then u r (λ next end. checkOf level w f o bs (v .hull) next end) ≡ Good a b → Found (suc level) outer at s a b
     by-left l r k Bad e g = absurd (bad-good a b g)
     by-left l r k (Good x y) e g = by-test l r x y k (ih (v .hull) l s x y e) (eqb r x) refl g
 
-    by-kind : (k : Kind) → kindOf o bs v outer at s ≡ k → onKind k (λ left right. then (checkOf level w f o bs (v .hull) left s) right (λ next end. checkOf level w f o bs (v .hull) next end)) ≡ Good a b → Found (suc level) outer at s a b
+    by-kind
+        : (k : Kind) → kindOf o bs v outer at s ≡ k
+        → onKind k (λ left right. then (checkOf level w f o bs (v .hull) left s) right (λ next end. checkOf level w f o bs (v .hull) next end)) ≡ Good a b
+        → Found (suc level) outer at s a b
     by-kind Wrong k g = absurd (bad-good a b g)
     by-kind (Leaf x y) k g =
         let i = kind-leaf-to o bs v outer at s x y k in
@@ -96,7 +106,9 @@ module _ (w : List ℕ) (f : List Float) (o : List ℕ) (bs : List Aabb) where
         }
     by-kind (Inner l r) k g = by-left l r k (checkOf level w f o bs (v .hull) l s) refl g
 
-  pub sub-to : (level : ℕ) (outer : Aabb) (at s a b : ℕ) → checkOf level w f o bs outer at s ≡ Good a b → Found level outer at s a b
+  pub sub-to
+      : (level : ℕ) (outer : Aabb) (at s a b : ℕ) → checkOf level w f o bs outer at s ≡ Good a b
+      → Found level outer at s a b
   unfolding checkOf
   sub-to zero outer at s a b e = absurd (bad-good a b e)
   sub-to (suc level) outer at s a b e =
@@ -104,7 +116,10 @@ module _ (w : List ℕ) (f : List Float) (o : List ℕ) (bs : List Aabb) where
 
   -- ---- where a tree stands the place is good
   module _ (lw : length w ≡ 4599) where
-    sub-tree : (level : ℕ) (outer : Aabb) (at s : ℕ) (t : Tree) → Stands w f at s t → depth t < level → Boxed o bs s t → T (inside (hull t) outer) → s + weight t ≤ length bs → checkOf level w f o bs outer at s ≡ Good (at + size t) (s + weight t)
+    sub-tree
+        : (level : ℕ) (outer : Aabb) (at s : ℕ) (t : Tree) → Stands w f at s t → depth t < level → Boxed o bs s t
+        → T (inside (hull t) outer) → s + weight t ≤ length bs
+        → checkOf level w f o bs outer at s ≡ Good (at + size t) (s + weight t)
     unfolding checkOf
     sub-tree zero outer at s t h d x k g = absurd (omega arith)
     sub-tree (suc level) outer at s (leaf b c) h d x k g =
@@ -120,7 +135,9 @@ module _ (w : List ℕ) (f : List Float) (o : List ℕ) (bs : List Aabb) where
         let q = sub-tree level b m (s + weight l) r (h .2) (omega arith) (x .2 .1) (x .1 .1) (omega arith) in
         rw (h .0, sym (kind-inner o bs (innerNode b m) outer at s good refl refl), p, eq-eqb m m refl) (q ∙ ap₂ Good (omega arith) (omega arith))
 
-    pub sub-exact : (level : ℕ) (outer : Aabb) (at s a b : ℕ) → (checkOf level w f o bs outer at s ≡ Good a b) ↔ Found level outer at s a b
+    pub sub-exact
+        : (level : ℕ) (outer : Aabb) (at s a b : ℕ)
+        → (checkOf level w f o bs outer at s ≡ Good a b) ↔ Found level outer at s a b
     sub-exact level outer at s a b = (
       sub-to level outer at s a b,
       λ p. sub-tree level outer at s (p .tree) (p .stands) (p .low) (p .boxed) (p .within) (omega (arith, p .last, p .few)) ∙ ap₂ Good (sym (p .after)) (sym (p .last)),

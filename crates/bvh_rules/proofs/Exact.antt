@@ -1,5 +1,6 @@
--- The checker accepts exactly the tables that meet the tree rules, its numbers say whether depth alone is at fault, and the tree that the tables hold is one.
--- A tree has fewer levels than objects, so 256 levels are enough for all but the rule of depth. Assumes nothing.
+-- The checker accepts exactly the tables that meet the tree rules, its numbers say whether depth alone is at fault, and
+-- the tree that the tables hold is one. A tree has fewer levels than objects, so 256 levels are enough for all but the
+-- rule of depth. Assumes nothing.
 use Prim.Native.Nat.{ℕ, _≤_, _<_}
 use mathlib.Core.Path.{_≡_, refl, sym, _∙_, ap}
 use mathlib.Core.Logic.{_↔_, Iff·trans, _⊎_, inl, inr}
@@ -66,7 +67,9 @@ module _ (w : List ℕ) (f : List Float) (o : List ℕ) (bs : List Aabb) where
     )
 
     -- a good answer tells how many nodes and objects the tree has
-    pub tree-told : (next end : ℕ) → 0 < length bs → judgeOf 64 w f o bs ≡ Good next end → (t : Tree) × (Accepted w f o bs t × (next ≡ size t) × (end ≡ length bs))
+    pub tree-told
+        : (next end : ℕ) → 0 < length bs → judgeOf 64 w f o bs ≡ Good next end
+        → (t : Tree) × (Accepted w f o bs t × (next ≡ size t) × (end ≡ length bs))
     tree-told next end some e =
         let p = judge-exact w f o bs lw few 64 some next end .0 e in
         (p .tree, (record { holds = p .holds; low = omega (arith, p .low) }, p .after, p .last))

@@ -1,4 +1,5 @@
--- One level of `checkOf`, by what the node is, and what a node that is good tells of its places. Each by the tests taken. Assumes nothing.
+-- One level of `checkOf`, by what the node is, and what a node that is good tells of its places. Each by the tests
+-- taken. Assumes nothing.
 use Prim.Native.Nat.{ℕ, zero, suc, _+_, _-_, _<_}
 use mathlib.Core.Path.{_≡_, refl, sym}
 use mathlib.Core.Bool.{Bool, true, false, cond, _&&_, and-eq-true-iff, false≢true}
@@ -17,7 +18,8 @@ use Rattle.bvh_rules.specs.declared.Kind.the-variants.{Wrong, Leaf, Inne
 use Rattle.bvh_rules.specs.declared.Sub.{Sub}
 use Rattle.bvh_rules.specs.declared.Sub.the-variants.{Bad, Good}
 use Rattle.bvh_rules.specs.Nodes.{nodeAt}
-use Rattle.bvh_rules.specs.Inside.Steps.{holdsAll, leafWords, leafOk, hullOk, kindOf, then, onKind, checkOf, orderOk, wholeOf}
+use Rattle.bvh_rules.specs.Inside.Steps.{holdsAll, leafWords, leafOk, hullOk, kindOf, then, onKind, checkOf}
+use Rattle.bvh_rules.specs.Inside.Steps.{orderOk, wholeOf}
 use Rattle.bvh_rules.specs.Check.{judgeOf}
 
 -- both of a test's parts
@@ -47,7 +49,9 @@ module _ (o : List ℕ) (bs : List Aabb) (v : Node) (start : ℕ) where
 
   pub leaf-start : leafOk o bs v start ≡ true → v .start ≡ start
   unfolding leafOk
-  leaf-start e = words-start v (length bs) start (cond-true (leafWords v (length bs) start) (holdsAll o bs (v .hull) start (v .count)) e .0)
+  leaf-start e =
+      words-start v (length bs) start
+      (cond-true (leafWords v (length bs) start) (holdsAll o bs (v .hull) start (v .count)) e .0)
 
 module _ (o : List ℕ) (bs : List Aabb) (v : Node) (outer : Aabb) (at start : ℕ) where
   pub kind-out : hullOk (v .hull) outer at ≡ false → Wrong ≡ kindOf o bs v outer at start
@@ -63,7 +67,9 @@ module _ (o : List ℕ) (bs : List Aabb) (v : Node) (outer : Aabb) (at start : �
     unfolding kindOf
     kind-started c s = rw (h, eq-eqb (v .count) 0 c, ne-eqb (v .start) 0 s)
 
-    pub kind-leaf : (v .count ≡ 0 → ⊥) → leafOk o bs v start ≡ true → Leaf (at + 1) (start + v .count) ≡ kindOf o bs v outer at start
+    pub kind-leaf
+        : (v .count ≡ 0 → ⊥) → leafOk o bs v start ≡ true
+        → Leaf (at + 1) (start + v .count) ≡ kindOf o bs v outer at start
     unfolding kindOf
     kind-leaf c e = rw (h, ne-eqb (v .count) 0 c, e)
 
@@ -78,7 +84,9 @@ module _ (w : List ℕ) (f : List Float) (o : List ℕ) (bs : List Aabb) (outer 
 
   module _ (v : Node) (ev : v ≡ nodeAt w f at) (k : Kind) (ek : k ≡ kindOf o bs v outer at start) where
     -- the parts are in v's box
-    check-step : (level : ℕ) → 0 < level → checkOf level w f o bs outer at start ≡ onKind k (λ left right. then (checkOf (level - 1) w f o bs (v .hull) left start) right (λ next end. checkOf (level - 1) w f o bs (v .hull) next end))
+    check-step
+        : (level : ℕ) → 0 < level
+        → checkOf level w f o bs outer at start ≡ onKind k (λ left right. then (checkOf (level - 1) w f o bs (v .hull) left start) right (λ next end. checkOf (level - 1) w f o bs (v .hull) next end))
     unfolding checkOf
     check-step zero h = absurd (omega arith)
     check-step (suc level) h = rw (ek, ev, sub-one)
@@ -90,12 +98,15 @@ module _ (w : List ℕ) (f : List Float) (o : List ℕ) (bs : List Aabb) (outer 
       pub check-leaf : (a b : ℕ) → k ≡ Leaf a b → Good a b ≡ checkOf level w f o bs outer at start
       check-leaf a b e = rw (check-step level h, e)
 
-      module _ (l r : ℕ) (e : k ≡ Inner l r) (part : Sub) (ep : part ≡ checkOf (level - 1) w f o bs (v .hull) l start) where
+      module _ (l r : ℕ) (e : k ≡ Inner l r) (part : Sub)
+          (ep : part ≡ checkOf (level - 1) w f o bs (v .hull) l start) where
         pub check-left-bad : part ≡ Bad → Bad ≡ checkOf level w f o bs outer at start
         check-left-bad g = rw (check-step level h, e, sym ep, g)
 
         module _ (a b : ℕ) (g : part ≡ Good a b) where
-          pub check-right : (x : Sub) → r ≡ a → x ≡ checkOf (level - 1) w f o bs (v .hull) a b → x ≡ checkOf level w f o bs outer at start
+          pub check-right
+              : (x : Sub) → r ≡ a → x ≡ checkOf (level - 1) w f o bs (v .hull) a b
+              → x ≡ checkOf level w f o bs outer at start
           check-right x q k = rw (check-step level h, e, sym ep, g, eq-eqb r a q) k
 
           pub check-other : (r ≡ a → ⊥) → Bad ≡ checkOf level w f o bs outer at start
@@ -112,6 +123,8 @@ module _ (levels : ℕ) (w : List ℕ) (f : List Float) (o : List ℕ) (bs : Lis
     unfolding judgeOf
     judge-order g = rw (sym e, ne-eqb n 0 z, g)
 
-    pub judge-whole : orderOk o n ≡ true → (top : Node) → top ≡ nodeAt w f 0 → (s : Sub) → s ≡ checkOf levels w f o bs (top .hull) 0 0 → wholeOf s n ≡ judgeOf levels w f o bs
+    pub judge-whole
+        : orderOk o n ≡ true → (top : Node) → top ≡ nodeAt w f 0 → (s : Sub)
+        → s ≡ checkOf levels w f o bs (top .hull) 0 0 → wholeOf s n ≡ judgeOf levels w f o bs
     unfolding judgeOf
     judge-whole g top t s k = rw (sym e, ne-eqb n 0 z, g, sym t, k)

@@ -1,5 +1,5 @@
--- What the loops over objects and over the order need at their start, at a turn and at their end, and where a node's words lie in a call's table and what
--- lies past the last, by the laws of a part of a list. Assumes nothing.
+-- What the loops over objects and over the order need at their start, at a turn and at their end, and where a node's
+-- words lie in a call's table and what lies past the last, by the laws of a part of a list. Assumes nothing.
 use Prim.Native.Nat.{ℕ, suc, _+_, _-_, _*_, _≤_, _<_}
 use mathlib.Core.Path.{_≡_, refl, sym}
 use mathlib.Core.Bool.{Bool, true, false, _&&_}
@@ -37,7 +37,8 @@ module _ (o : List ℕ) (bs : List Aabb) (b : Aabb) (start : ℕ) where
   holds-more j = rw (add-one, from-snoc (heldAt o bs b) start j, every-snoc)
 
 -- ---- a part of a table
-part-at : {A : Type 0} (t : List A) (from n i : ℕ) (d : A) → i < n → getD (take n (drop from t)) i d ≡ getD t (from + i) d
+part-at
+    : {A : Type 0} (t : List A) (from n i : ℕ) (d : A) → i < n → getD (take n (drop from t)) i d ≡ getD t (from + i) d
 part-at t from n i d h = rw (getD-take, getD-drop)
 
 part-length : {A : Type 0} (t : List A) (from n : ℕ) → length (take n (drop from t)) ≤ n
@@ -168,7 +169,9 @@ module _ (o : List ℕ) (n i : ℕ) (seen : List Bool) where
       unfolding marksOf
       marks-twice g s = rw (next, sym e) (simp (lt-ltb x n g, s))
 
-      pub marks-step : x < n → getD seen x false ≡ false → marksOf o n (n - i) i seen ≡ marksOf o n (n - (i + 1)) (i + 1) (set seen x true)
+      pub marks-step
+          : x < n → getD seen x false ≡ false
+          → marksOf o n (n - i) i seen ≡ marksOf o n (n - (i + 1)) (i + 1) (set seen x true)
       unfolding marksOf
       marks-step g s = rw (next, sym e) (simp (lt-ltb x n g, s))
 

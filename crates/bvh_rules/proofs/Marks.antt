@@ -1,4 +1,5 @@
--- The order table is good exactly when it holds each object once: what is still to be marked is fresh. By induction on how many places are left. Assumes nothing.
+-- The order table is good exactly when it holds each object once: what is still to be marked is fresh. By induction on
+-- how many places are left. Assumes nothing.
 use Prim.Native.Nat.{ℕ, zero, suc, _+_, _≤_, _<_}
 use mathlib.Core.Path.{_≡_, refl, sym, _∙_, ap}
 use mathlib.Core.Logic.{_↔_, ⊎-elim}
@@ -22,7 +23,8 @@ cond-false false b e = (refl, e)
 
 -- a place that is not marked after x was is not x
 other : (seen : List Bool) (x y : ℕ) → x < length seen → getD (set seen x true) y false ≡ false → y ≡ x → ⊥
-other seen x y h e g = true≢false (sym (getD-set-same seen x true false h) ∙ ap (λ (k : ℕ). getD (set seen x true) k false) (sym g) ∙ e)
+other seen x y h e g =
+    true≢false (sym (getD-set-same seen x true false h) ∙ ap (λ (k : ℕ). getD (set seen x true) k false) (sym g) ∙ e)
 
 module _ (o : List ℕ) (n : ℕ) where
   -- k places from i on: each below n, no two the same, none seen
@@ -33,7 +35,9 @@ module _ (o : List ℕ) (n : ℕ) where
 
   -- one place more at the front
   module _ (k i : ℕ) (seen : List Bool) where
-    fresh-more : n ≤ length seen → wordOf o i < n → getD seen (wordOf o i) false ≡ false → Fresh k (i + 1) (set seen (wordOf o i) true) → Fresh (suc k) i seen
+    fresh-more
+        : n ≤ length seen → wordOf o i < n → getD seen (wordOf o i) false ≡ false
+        → Fresh k (i + 1) (set seen (wordOf o i) true) → Fresh (suc k) i seen
     fresh-more l x s q =
         let new : (j : ℕ) → i < j → j < i + suc k → wordOf o j ≡ wordOf o i → ⊥
         = λ j g h. other seen (wordOf o i) (wordOf o j) (omega arith) (q .unseen j (omega arith) (omega arith)) in
@@ -61,7 +65,13 @@ module _ (o : List ℕ) (n : ℕ) where
 
   fresh : (k i : ℕ) (seen : List Bool) → n ≤ length seen → marksOf o n k i seen ≡ true → Fresh k i seen
   unfolding marksOf
-  fresh zero i seen l e = record { below = λ j g h. absurd (omega arith); apart = λ j m g d h. absurd (omega arith); unseen = λ j g h. absurd (omega arith) }
+  fresh zero i seen l e =
+      record {
+        below = λ j g h.
+            absurd (omega arith);
+        apart = λ j m g d h. absurd (omega arith);
+        unseen = λ j g h. absurd (omega arith);
+      }
   fresh (suc k) i seen l e =
       let x : ℕ = wordOf o i in
       let a = cond-true (ltb x n) (cond (getD seen x false) false (marksOf o n k (i + 1) (set seen x true))) e in

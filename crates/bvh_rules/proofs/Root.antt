@@ -1,5 +1,6 @@
--- With so many levels the checker's answer is good exactly when the tables hold a tree of fewer, and tells how many nodes and objects it has. By the walk from
--- the root, whose box lies within itself, and the order table. Assumes nothing.
+-- With so many levels the checker's answer is good exactly when the tables hold a tree of fewer, and tells how many
+-- nodes and objects it has. By the walk from the root, whose box lies within itself, and the order table. Assumes
+-- nothing.
 use Prim.Native.Nat.{ℕ, _≤_, _<_}
 use mathlib.Core.Path.{_≡_, refl, sym, _∙_, ap, subst}
 use mathlib.Core.Logic.{_↔_}
@@ -49,7 +50,9 @@ module _ (w : List ℕ) (f : List Float) (o : List ℕ) (bs : List Aabb) where
         pub after : next ≡ size tree
         pub last : «end» ≡ length bs
 
-      by-walk : (s : Sub) (a b : ℕ) → s ≡ checkOf levels w f o bs (nodeAt w f 0 .hull) 0 0 → Once o (length bs) → wholeOf s (length bs) ≡ Good a b → Whole a b
+      by-walk
+          : (s : Sub) (a b : ℕ) → s ≡ checkOf levels w f o bs (nodeAt w f 0 .hull) 0 0 → Once o (length bs)
+          → wholeOf s (length bs) ≡ Good a b → Whole a b
       by-walk Bad a b e q g = absurd (bad-good a b g)
       by-walk (Good x y) a b e q g = by-end (eqb y (length bs)) refl g
         where
@@ -78,11 +81,23 @@ module _ (w : List ℕ) (f : List Float) (o : List ℕ) (bs : List Aabb) where
           let s : Sub = checkOf levels w f o bs (nodeAt w f 0 .hull) 0 0 in
           by-walk s a b refl (order-exact o (length bs) few .0 e) (judge-whole levels w f o bs (length bs) refl ne e (nodeAt w f 0) refl s refl ∙ g)
 
-      judge-tree : (t : Tree) → Holds w f o bs t → depth t < levels → judgeOf levels w f o bs ≡ Good (size t) (length bs)
+      judge-tree
+          : (t : Tree) → Holds w f o bs t → depth t < levels → judgeOf levels w f o bs ≡ Good (size t) (length bs)
       judge-tree t h d =
           let box : T (inside (hull t) (nodeAt w f 0 .hull)) = subst (λ (x : Aabb). T (inside (hull t) x)) (sym (root-hull w f 0 t (h .stands))) (inside-refl (hull t) (root-finite o bs 0 t (h .boxed))) in
           let p : Found w f o bs levels (nodeAt w f 0 .hull) 0 0 (size t) (length bs)
-          = record { tree = t; stands = h .stands; low = d; boxed = h .boxed; within = box; after = omega arith; last = omega (arith, h .all); few = omega arith } in
+          = record {
+            tree =
+                t;
+            stands = h .stands;
+            low = d;
+            boxed = h .boxed;
+            within = box;
+            after = omega arith;
+            last = omega
+                (arith, h .all);
+            few = omega arith;
+          } in
           let s = sub-exact w f o bs lw levels (nodeAt w f 0 .hull) 0 0 (size t) (length bs) .1 p in
           sym (judge-whole levels w f o bs (length bs) refl ne (order-exact o (length bs) few .1 (h .once)) (nodeAt w f 0) refl (Good (size t) (length bs)) (sym s)) ∙
           rw (eq-eqb (length bs) (length bs) refl)

@@ -1,4 +1,5 @@
--- What the tests of one node say, each exactly: its box, its objects, its words, and which kind of node it is. By the cases of each test. Assumes nothing.
+-- What the tests of one node say, each exactly: its box, its objects, its words, and which kind of node it is. By the
+-- cases of each test. Assumes nothing.
 use Prim.Native.Nat.{ℕ, zero, suc, _+_, _-_, _≤_, _<_}
 use mathlib.Core.Path.{_≡_, refl, sym, _∙_, ap, subst}
 use mathlib.Core.Logic.{⊎-elim}
@@ -98,14 +99,20 @@ tag (Inner a b) = 2
 apart : (a b : Kind) → a ≡ b → (tag a ≡ tag b → ⊥) → ⊥
 apart a b e h = h (ap tag e)
 
-is-leaf : (h z s l : Bool) (a b c d x y : ℕ) → cond h (cond z (cond s (Inner a b) Wrong) (cond l (Leaf c d) Wrong)) Wrong ≡ Leaf x y → (h ≡ true) × (z ≡ false) × (l ≡ true) × (c ≡ x) × (d ≡ y)
+is-leaf
+    : (h z s l : Bool) (a b c d x y : ℕ)
+    → cond h (cond z (cond s (Inner a b) Wrong) (cond l (Leaf c d) Wrong)) Wrong ≡ Leaf x y
+    → (h ≡ true) × (z ≡ false) × (l ≡ true) × (c ≡ x) × (d ≡ y)
 is-leaf true true true l a b c d x y e = absurd (apart (Inner a b) (Leaf x y) e (omega arith))
 is-leaf true true false l a b c d x y e = absurd (apart Wrong (Leaf x y) e (omega arith))
 is-leaf true false s true a b c d x y e = let g : Leaf c d ≡ Leaf x y = e in (refl, refl, refl, cc, cc)
 is-leaf true false s false a b c d x y e = absurd (apart Wrong (Leaf x y) e (omega arith))
 is-leaf false z s l a b c d x y e = absurd (apart Wrong (Leaf x y) e (omega arith))
 
-is-inner : (h z s l : Bool) (a b c d x y : ℕ) → cond h (cond z (cond s (Inner a b) Wrong) (cond l (Leaf c d) Wrong)) Wrong ≡ Inner x y → (h ≡ true) × (z ≡ true) × (s ≡ true) × (a ≡ x) × (b ≡ y)
+is-inner
+    : (h z s l : Bool) (a b c d x y : ℕ)
+    → cond h (cond z (cond s (Inner a b) Wrong) (cond l (Leaf c d) Wrong)) Wrong ≡ Inner x y
+    → (h ≡ true) × (z ≡ true) × (s ≡ true) × (a ≡ x) × (b ≡ y)
 is-inner true true true l a b c d x y e = let g : Inner a b ≡ Inner x y = e in (refl, refl, refl, cc, cc)
 is-inner true true false l a b c d x y e = absurd (apart Wrong (Inner x y) e (omega arith))
 is-inner true false s true a b c d x y e = absurd (apart (Leaf c d) (Inner x y) e (omega arith))

@@ -1,5 +1,5 @@
--- How many nodes and levels a tree has for its places, that it ends within the table, and that at most one tree stands at a place. By induction on the
--- tree: a leaf is not empty. Assumes nothing.
+-- How many nodes and levels a tree has for its places, that it ends within the table, and that at most one tree stands
+-- at a place. By induction on the tree: a leaf is not empty. Assumes nothing.
 use Prim.Native.Nat.{ℕ, _+_, _*_, _≤_, _<_}
 use mathlib.Core.Path.{_≡_, sym, _∙_, ap, ap₂, subst}
 use mathlib.Core.List.{List}
@@ -52,7 +52,8 @@ module _ (w : List ℕ) (f : List Float) where
   stands-below lw at s (leaf b c) h = here lw at (leafNode b s c) (h .0) (omega (arith, h .1))
   stands-below lw at s (node b l r) h = here lw at (innerNode b (at + 1 + size l)) (h .0) (omega arith)
 
-  leaf-inner : (at s c k : ℕ) (b b′ : Aabb) → 0 < c → nodeAt w f at ≡ leafNode b s c → nodeAt w f at ≡ innerNode b′ k → ⊥
+  leaf-inner
+      : (at s c k : ℕ) (b b′ : Aabb) → 0 < c → nodeAt w f at ≡ leafNode b s c → nodeAt w f at ≡ innerNode b′ k → ⊥
   leaf-inner at s c k b b′ h p q =
       let e : c ≡ 0 = ap (λ (u : Node). u .count) (sym p ∙ q) in
       omega arith
@@ -61,8 +62,10 @@ module _ (w : List ℕ) (f : List Float) where
   stands-one at s (leaf b c) (leaf b′ c′) h k =
       let e : leafNode b s c ≡ leafNode b′ s c′ = sym (h .0) ∙ k .0 in
       ap₂ leaf (ap (λ (u : Node). u .hull) e) (ap (λ (u : Node). u .count) e)
-  stands-one at s (leaf b c) (node b′ l′ r′) h k = absurd (leaf-inner at s c (at + 1 + size l′) b b′ (h .1) (h .0) (k .0))
-  stands-one at s (node b l r) (leaf b′ c′) h k = absurd (leaf-inner at s c′ (at + 1 + size l) b′ b (k .1) (k .0) (h .0))
+  stands-one at s (leaf b c) (node b′ l′ r′) h k =
+      absurd (leaf-inner at s c (at + 1 + size l′) b b′ (h .1) (h .0) (k .0))
+  stands-one at s (node b l r) (leaf b′ c′) h k =
+      absurd (leaf-inner at s c′ (at + 1 + size l) b′ b (k .1) (k .0) (h .0))
   stands-one at s (node b l r) (node b′ l′ r′) h k =
       let e : b ≡ b′ = ap (λ (u : Node). u .hull) (sym (h .0) ∙ k .0) in
       let g = stands-one (at + 1) s l l′ (h .1) (k .1) in

@@ -1,7 +1,7 @@
 // The tree of boxes in a call's table: its nodes, and the checker of document 01's tree rules.
 ghost use mathlib.Core.Path.{_≡_};
 ghost use Prim.Native.Nat.{_-_};
-ghost use lib.ListN.{length, getD};
+ghost use lib.ListN.{length};
 ghost use Rattle.plan.specs.Sections.{objects};
 ghost use Rattle.plan.specs.Records.{wordOf};
 ghost use Rattle.plan.specs.Plan.{countOf, planOf};

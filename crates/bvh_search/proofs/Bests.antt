@@ -1,5 +1,5 @@
--- The best of a walk is the least, by value, of the bound and of those distances seen that are numbers, and no box passed over is nearer. Each step keeps
--- that, since a best that is a number only goes down. Assumes nothing.
+-- The best of a walk is the least, by value, of the bound and of those distances seen that are numbers, and no box
+-- passed over is nearer. Each step keeps that, since a best that is a number only goes down. Assumes nothing.
 use Prim.Native.Nat.{ℕ, zero, suc}
 use mathlib.Core.Path.{_≡_, refl, _∙_}
 use mathlib.Core.Logic.{_⊎_, inl, inr}
@@ -27,7 +27,9 @@ closer-d : (x : Piece) (p : Vec3) (best : DistHit) → plan.closer best (hitOf x
 unfolding plan.closer hitOf
 closer-d x p best = go (lt (pieceDist x p) (best .d))
   where
-    go : (y : Bool) → cond y (record { d = pieceDist x p; mat = x .head .material }) best .d ≡ cond y (pieceDist x p) (best .d)
+    go
+        : (y : Bool)
+        → cond y (record { d = pieceDist x p; mat = x .head .material }) best .d ≡ cond y (pieceDist x p) (best .d)
     go true = refl
     go false = refl
 
@@ -41,7 +43,9 @@ module _ (o : List ℕ) (w : List ℕ) (f : List Float) (p : Vec3) (bound : Floa
     abbrev c : Float
     c = closer d (dist o w f p i)
 
-    one-more : (c ≡ d) ⊎ (c ≡ dist o w f p i) → (d ≡ bound) ⊎ ((j : ℕ) × In j seen × (d ≡ dist o w f p j)) → (c ≡ bound) ⊎ ((j : ℕ) × In j (seen ++ (i ∷ [])) × (c ≡ dist o w f p j))
+    one-more
+        : (c ≡ d) ⊎ (c ≡ dist o w f p i) → (d ≡ bound) ⊎ ((j : ℕ) × In j seen × (d ≡ dist o w f p j))
+        → (c ≡ bound) ⊎ ((j : ℕ) × In j (seen ++ (i ∷ [])) × (c ≡ dist o w f p j))
     one-more (inl e) (inl h) = inl (e ∙ h)
     one-more (inl e) (inr h) = inr (h .0, in-left (h .0) seen (i ∷ []) (h .1), e ∙ h .2)
     one-more (inr e) h = inr (i, in-right i seen (i ∷ []) (inl refl), e)
@@ -64,7 +68,9 @@ module _ (o : List ℕ) (w : List ℕ) (f : List Float) (p : Vec3) (bound : Floa
           far = λ q h. le-trans c d (near o w f p (q .under)) down (g .far q h);
         }
 
-  good-leaf : (k s : ℕ) (best : DistHit) (seen : List ℕ) (passed : List Passed) → Good (best .d) seen passed → Good (leafHit w f o p s k best .d) (seen ++ listFrom place s k) passed
+  good-leaf
+      : (k s : ℕ) (best : DistHit) (seen : List ℕ) (passed : List Passed) → Good (best .d) seen passed
+      → Good (leafHit w f o p s k best .d) (seen ++ listFrom place s k) passed
   unfolding leafHit nearest listFrom
   good-leaf zero s best seen passed g = rw append-nil g
   good-leaf (suc k) s best seen passed g =
@@ -81,7 +87,9 @@ module _ (o : List ℕ) (w : List ℕ) (f : List Float) (p : Vec3) (bound : Floa
       (λ s k σ g. good-leaf k s (σ .best) (σ .seen) (σ .passed) g)
       (λ σ g. g)
 
-pub good-walk : (o : List ℕ) (w : List ℕ) (f : List Float) (p : Vec3) (t : Tree) (bound : DistHit) → T (eq (bound .d) (bound .d)) → Kept o w f p (bound .d) (visit o w f p t 0 (walkFrom bound))
+pub good-walk
+    : (o : List ℕ) (w : List ℕ) (f : List Float) (p : Vec3) (t : Tree) (bound : DistHit) → T (eq (bound .d) (bound .d))
+    → Kept o w f p (bound .d) (visit o w f p t 0 (walkFrom bound))
 good-walk o w f p t bound n =
     good-visit o w f p (bound .d) t 0 (walkFrom bound) (record {
       least = record { one = inl refl; bounded = le-refl (bound .d) (rw number-eq at n); below = λ i h. absurd h };

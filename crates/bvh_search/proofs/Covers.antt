@@ -1,5 +1,5 @@
--- Each place under the tree that a walk visits is seen, or lies under a box that was passed over. By induction on the tree: what is seen or passed over stays
--- so. Assumes nothing.
+-- Each place under the tree that a walk visits is seen, or lies under a box that was passed over. By induction on the
+-- tree: what is seen or passed over stays so. Assumes nothing.
 use Prim.Native.Nat.{ℕ, zero, suc, _+_, _≤_, _<_}
 use mathlib.Core.Path.{refl}
 use mathlib.Core.Logic.{_⊎_, inl, inr}
@@ -32,7 +32,8 @@ in-split a (x ∷ xs) ys (inr h) = elim (in-split a xs ys h) [ inl k ↦ inl (in
 in-from : (i s c : ℕ) → s ≤ i → i < s + c → In i (listFrom place s c)
 unfolding listFrom
 in-from i s zero h k = absurd (omega arith)
-in-from i s (suc c) h k = elim (decLe (suc s) i) [ yes g ↦ inr (in-from i (suc s) c g (omega arith)) | no g ↦ inl (omega arith) ]
+in-from i s (suc c) h k =
+    elim (decLe (suc s) i) [ yes g ↦ inr (in-from i (suc s) c g (omega arith)) | no g ↦ inl (omega arith) ]
 
 module _ (o : List ℕ) (w : List ℕ) (f : List Float) (p : Vec3) where
   abbrev walk : Tree → ℕ → Walk → Walk
@@ -63,12 +64,15 @@ module _ (o : List ℕ) (w : List ℕ) (f : List Float) (p : Vec3) where
 
   met-still : (i : ℕ) (t : Tree) (s : ℕ) (σ : Walk) → Met i σ → Met i (walk t s σ)
   met-still i t s σ (inl h) = inl (grows t s σ .seen i h)
-  met-still i t s σ (inr u) = inr (record { box = u .box; was = grows t s σ .passed (u .box) (u .was); from = u .from; to = u .to })
+  met-still i t s σ (inr u) =
+      inr (record { box = u .box; was = grows t s σ .passed (u .box) (u .was); from = u .from; to = u .to })
 
   met-skip : (i : ℕ) (t : Tree) (s : ℕ) (σ : Walk) → s ≤ i → i < s + weight t → Met i (skip o w f p t s σ)
   met-skip i t s σ h k = inr (record { box = record { under = t; first = s }; was = inl refl; from = h; to = k })
 
-  pub met : (i : ℕ) (t : Tree) (s : ℕ) (σ : Walk) → s ≤ i → i < s + weight t → In i (visit o w f p t s σ .seen) ⊎ Under (visit o w f p t s σ .passed) i
+  pub met
+      : (i : ℕ) (t : Tree) (s : ℕ) (σ : Walk) → s ≤ i → i < s + weight t
+      → In i (visit o w f p t s σ .seen) ⊎ Under (visit o w f p t s σ .passed) i
   met i (leaf b c) s σ h k =
       at-leaf o w f p (Met i) s σ b c
       (λ _. met-skip i (leaf b c) s σ h k)

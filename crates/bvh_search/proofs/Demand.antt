@@ -1,4 +1,5 @@
--- Every search of an accepted tree, from a bound that is a number, meets the demand: it is the walk of the tree, and each step keeps it. Assumes nothing.
+-- Every search of an accepted tree, from a bound that is a number, meets the demand: it is the walk of the tree, and
+-- each step keeps it. Assumes nothing.
 use Prim.Native.Nat.{ℕ, _≤_}
 use mathlib.Core.Path.{_≡_, refl}
 use mathlib.Core.Logic.{inl, inr}
@@ -24,7 +25,9 @@ use Rattle.bvh_search.proofs.Covers.{met}
 use Rattle.bvh_search.proofs.Bests.{good-walk}
 
 -- a walk's answer
-answered : (o w : List ℕ) (f : List Float) (p : Vec3) (t : Tree) (bound : DistHit) → T (eq (bound .d) (bound .d)) → Demand o w f p t bound (answer (visit o w f p t 0 (walkFrom bound)))
+answered
+    : (o w : List ℕ) (f : List Float) (p : Vec3) (t : Tree) (bound : DistHit) → T (eq (bound .d) (bound .d))
+    → Demand o w f p t bound (answer (visit o w f p t 0 (walkFrom bound)))
 answered o w f p t bound n =
     let σ = visit o w f p t 0 (walkFrom bound) in
     let g = good-walk o w f p t bound n in
@@ -59,6 +62,8 @@ module _ (nw : List ℕ) (nf : List Float) (o w : List ℕ) (f : List Float) (bs
       )
 
 -- with no objects the bound comes back, and nothing is popped
-pub search-empty : (nw : List ℕ) (nf : List Float) (o w : List ℕ) (f : List Float) (p : Vec3) (bound : DistHit) → countOf objects w ≡ 0 → searchOf nw nf o w f p bound ≡ searched bound 0 0 true
+pub search-empty
+    : (nw : List ℕ) (nf : List Float) (o w : List ℕ) (f : List Float) (p : Vec3) (bound : DistHit)
+    → countOf objects w ≡ 0 → searchOf nw nf o w f p bound ≡ searched bound 0 0 true
 unfolding searchOf
 search-empty nw nf o w f p bound e = rw e

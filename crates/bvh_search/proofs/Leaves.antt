@@ -1,4 +1,5 @@
--- A leaf's places and the loop over its objects: at its start and at a turn. By one more at the end of a list. Assumes nothing.
+-- A leaf's places and the loop over its objects: at its start and at a turn. By one more at the end of a list. Assumes
+-- nothing.
 use Prim.Native.Nat.{ℕ, _+_, _-_, _≤_, _<_}
 use mathlib.Core.Path.{_≡_, refl}
 use mathlib.Core.List.{List}
@@ -36,6 +37,7 @@ module _ (w : List ℕ) (f : List Float) (o : List ℕ) (p : Vec3) (s : ℕ) (be
   unfolding leafHit listFrom nearest
   hit-none = refl
 
-  pub hit-more : (j : ℕ) → leafHit w f o p s (j + 1) best ≡ closer (leafHit w f o p s j best) (hitOf (pieceIn w f o (s + j)) p)
+  pub hit-more
+      : (j : ℕ) → leafHit w f o p s (j + 1) best ≡ closer (leafHit w f o p s j best) (hitOf (pieceIn w f o (s + j)) p)
   unfolding leafHit
   hit-more j = rw (add-one, from-snoc (pieceIn w f o) s j, nearest-snoc)

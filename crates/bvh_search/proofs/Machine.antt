@@ -1,5 +1,5 @@
--- The code's search comes to the definition's: each pop of the code is one turn of `runOf`. By an invariant: what is still to run, from the node in hand and
--- the stack, is the whole run. Assumes nothing.
+-- The code's search comes to the definition's: each pop of the code is one turn of `runOf`. By an invariant: what is
+-- still to run, from the node in hand and the stack, is the whole run. Assumes nothing.
 use Prim.Native.Nat.{ℕ, zero, suc, _+_, _-_, _*_, _%_, _^_, _≤_, _<_}
 use mathlib.Core.Path.{_≡_, refl, sym, ap, _∙_, subst}
 use mathlib.Core.Bool.{Bool, true, false, cond}
@@ -57,12 +57,15 @@ module _ (nw : List ℕ) (nf : List Float) (o : List ℕ) (w : List ℕ) (f : Li
   run-none zero b k e = refl
   run-none (suc fuel) b k e = refl
 
-  run-spent : (a : ℕ) (rest : List ℕ) (b : DistHit) (k e : ℕ) → runOf nw nf o w f p 0 (a ∷ rest) b k e ≡ searched b k e false
+  run-spent
+      : (a : ℕ) (rest : List ℕ) (b : DistHit) (k e : ℕ) → runOf nw nf o w f p 0 (a ∷ rest) b k e ≡ searched b k e false
   unfolding runOf
   run-spent a rest b k e = refl
 
-  run-on : (fuel a : ℕ) (rest : List ℕ) (b : DistHit) (k e : ℕ) (l : List ℕ) (h : DistHit) (c : ℕ) → turnOf nw nf o w f p a rest b ≡ on l h c →
-      runOf nw nf o w f p (suc fuel) (a ∷ rest) b k e ≡ runOf nw nf o w f p fuel l h (k + 1) (e + c)
+  run-on
+      : (fuel a : ℕ) (rest : List ℕ) (b : DistHit) (k e : ℕ) (l : List ℕ) (h : DistHit) (c : ℕ)
+      → turnOf nw nf o w f p a rest b ≡ on l h c
+      → runOf nw nf o w f p (suc fuel) (a ∷ rest) b k e ≡ runOf nw nf o w f p fuel l h (k + 1) (e + c)
   unfolding runOf
   run-on fuel a rest b k e l h c t = rw t
 
@@ -94,10 +97,14 @@ module _ (nw : List ℕ) (nf : List Float) (o : List ℕ) (w : List ℕ) (f : Li
     pub record After (k : ℕ) (t : Tables) : Type 0 where
       pub pops : t .state .popped ≡ k
       pub on : t .state .done ≤ 0 → Busy (t .stack) (t .keys) (t .state)
-      pub off : 0 < t .state .done → searched (t .state .hit) (t .state .popped) (t .state .evaluated) (eqb (t .state .done) 1) ≡ all
+      pub off
+          : 0 < t .state .done
+          → searched (t .state .hit) (t .state .popped) (t .state .evaluated) (eqb (t .state .done) 1) ≡ all
 
     -- the next waiting node in hand, or the end of a run with none
-    next-law : (stack : List ℕ) (keys : List Float) (s : State) → Idle stack keys s → After (s .popped) (tables stack keys (nextOf stack keys s))
+    next-law
+        : (stack : List ℕ) (keys : List Float) (s : State) → Idle stack keys s
+        → After (s .popped) (tables stack keys (nextOf stack keys s))
     unfolding nextOf
     next-law stack keys s i =
         let W = i .waits in
@@ -130,7 +137,9 @@ module _ (nw : List ℕ) (nf : List Float) (o : List ℕ) (w : List ℕ) (f : Li
         })
 
     -- the budget spent
-    pub ran-out : (stack : List ℕ) (keys : List Float) (s : State) → Busy stack keys s → 511 ≤ s .popped → searched (s .hit) (s .popped) (s .evaluated) false ≡ all
+    pub ran-out
+        : (stack : List ℕ) (keys : List Float) (s : State) → Busy stack keys s → 511 ≤ s .popped
+        → searched (s .hit) (s .popped) (s .evaluated) false ≡ all
     ran-out stack keys s i h =
         let z : 511 - s .popped ≡ 0 = omega arith in
         sym (run-spent (s .at) (waiting stack (s .sp)) (s .hit) (s .popped) (s .evaluated)) ∙
@@ -151,8 +160,11 @@ module _ (nw : List ℕ) (nf : List Float) (o : List ℕ) (w : List ℕ) (f : Li
           let e : suc (511 - (s .popped + 1)) ≡ 511 - s .popped = omega arith in
           rw e (i .run)
 
-      turned : (l : List ℕ) (h : DistHit) (c : ℕ) → turn ≡ on l h c → runOf nw nf o w f p (511 - (s .popped + 1)) l h (s .popped + 1) (s .evaluated + c) ≡ all
-      turned l h c t = sym (run-on (511 - (s .popped + 1)) (s .at) rest (s .hit) (s .popped) (s .evaluated) l h c t) ∙ fuelled
+      turned
+          : (l : List ℕ) (h : DistHit) (c : ℕ) → turn ≡ on l h c
+          → runOf nw nf o w f p (511 - (s .popped + 1)) l h (s .popped + 1) (s .evaluated + c) ≡ all
+      turned l h c t =
+          sym (run-on (511 - (s .popped + 1)) (s .at) rest (s .hit) (s .popped) (s .evaluated) l h c t) ∙ fuelled
 
       pops : (s .popped + 1) % 2 ^ 32 ≡ s .popped + 1
       pops = mod-eq-of-lt (omega arith)
@@ -161,7 +173,8 @@ module _ (nw : List ℕ) (nf : List Float) (o : List ℕ) (w : List ℕ) (f : Li
       evals c h = mod-eq-of-lt (omega (arith, i .waits .small))
 
       -- a state x after the pop, with c objects more evaluated
-      module _ (x : State) (c : ℕ) (ec : c ≤ 256) (es : x .sp ≡ s .sp) (ek : x .popped ≡ s .popped + 1) (ee : x .evaluated ≡ s .evaluated + c) (ed : x .done ≡ s .done) where
+      module _ (x : State) (c : ℕ) (ec : c ≤ 256) (es : x .sp ≡ s .sp) (ek : x .popped ≡ s .popped + 1)
+          (ee : x .evaluated ≡ s .evaluated + c) (ed : x .done ≡ s .done) where
         waited : Waits stack keys x
         waited =
             let W = i .waits in
@@ -184,7 +197,9 @@ module _ (nw : List ℕ) (nf : List Float) (o : List ℕ) (w : List ℕ) (f : Li
       abbrev Popped : Tables → Type 0
       Popped = After (s .popped + 1)
 
-      nexted : (x : State) → x .popped ≡ s .popped + 1 → Idle stack keys x → Popped (tables stack keys (nextOf stack keys x))
+      nexted
+          : (x : State) → x .popped ≡ s .popped + 1 → Idle stack keys x
+          → Popped (tables stack keys (nextOf stack keys x))
       nexted x e j = subst (λ (k : ℕ). After k (tables stack keys (nextOf stack keys x))) e (next-law stack keys x j)
 
       skipped : farOff (s .key) (s .hit .d) ≡ true → Popped (tables stack keys (nextOf stack keys (popping s)))
@@ -225,10 +240,14 @@ module _ (nw : List ℕ) (nf : List Float) (o : List ℕ) (w : List ℕ) (f : Li
                   off = λ h. rw pops (sym (run-full (511 - (s .popped + 1)) (s .at) rest (s .hit) (s .popped) (s .evaluated) t) ∙ fuelled);
                 }
 
-            kept : (a k : ℕ) → k < s .sp + 1 → getD (set keys (s .sp) (squareAt nw nf p a)) k nan ≡ squareAt nw nf p (getD (set stack (s .sp) a) k 0)
+            kept
+                : (a k : ℕ) → k < s .sp + 1
+                → getD (set keys (s .sp) (squareAt nw nf p a)) k nan ≡ squareAt nw nf p (getD (set stack (s .sp) a) k 0)
             kept a k h = go (eqb k (s .sp)) refl
               where
-                go : (b : Bool) → eqb k (s .sp) ≡ b → getD (set keys (s .sp) (squareAt nw nf p a)) k nan ≡ squareAt nw nf p (getD (set stack (s .sp) a) k 0)
+                go
+                    : (b : Bool) → eqb k (s .sp) ≡ b
+                    → getD (set keys (s .sp) (squareAt nw nf p a)) k nan ≡ squareAt nw nf p (getD (set stack (s .sp) a) k 0)
                 go true q =
                     rw (
                       eqb-true k (s .sp) q,
@@ -261,7 +280,9 @@ module _ (nw : List ℕ) (nf : List Float) (o : List ℕ) (w : List ℕ) (f : Li
                   off = λ h. absurd (omega (arith, W .going));
                 }
 
-            order : (b : Bool) → leftFirst (squareAt nw nf p l) (squareAt nw nf p r) ≡ b → lt (nodeDist nw nf o w f p l) (nodeDist nw nf o w f p r) ≡ b
+            order
+                : (b : Bool) → leftFirst (squareAt nw nf p l) (squareAt nw nf p r) ≡ b
+                → lt (nodeDist nw nf o w f p l) (nodeDist nw nf o w f p r) ≡ b
             unfolding leftFirst
             order b q = rw (dist-is l, dist-is r) q
 

@@ -1,5 +1,5 @@
--- Tests of roots with no root taken: of a root against a bound by the bound's bar, and of two roots by what lies between. By the laws of the root and of the
--- bar. Assumes nothing.
+-- Tests of roots with no root taken: of a root against a bound by the bound's bar, and of two roots by what lies
+-- between. By the laws of the root and of the bar. Assumes nothing.
 use mathlib.Core.Path.{_≡_, refl, sym, subst}
 use mathlib.Core.Bool.{Bool, true, false, not, cond}
 use mathlib.Core.Logic.{_⊎_, inl, inr, ⊎-elim}
@@ -15,7 +15,8 @@ use Rattle.root.proofs.BarLaw.{bar-law}
 use Rattle.scalar.specs.F32.{f0}
 use Rattle.refusals.specs.Ranges.{greatest}
 use Rattle.float_order.specs.Order.{number, zeroF, clear}
-use Rattle.float_order.proofs.Order.{yes-of, is-yes, is-not, not-of, same-test, at-most→le, bottom-le, le-left, le-right, le-trans, lt-not-le, lt-of-not-le, lt-le, lt-le-trans, lt-is-not-le}
+use Rattle.float_order.proofs.Order.{yes-of, is-yes, is-not, not-of, same-test, at-most→le, bottom-le, le-left}
+use Rattle.float_order.proofs.Order.{le-right, le-trans, lt-not-le, lt-of-not-le, lt-le, lt-le-trans, lt-is-not-le}
 use Rattle.float_order.proofs.Bounds.{finite-between}
 use Rattle.float_order.proofs.Rounding.{zero-is, no-debit}
 use Rattle.float_order.proofs.Roots.{plain-of, root-mono}
@@ -49,7 +50,9 @@ root-plus x f h =
     (λ q. rw (q .0) h)
     (sort x h)
 
-root-le : (x y : Float) → T (fits binary32 x) → T (fits binary32 y) → T (le zeroF x) → T (le x y) → T (le (rootOf x) (rootOf y))
+root-le
+    : (x y : Float) → T (fits binary32 x) → T (fits binary32 y) → T (le zeroF x) → T (le x y)
+    → T (le (rootOf x) (rootOf y))
 root-le x y f g h k =
     let j : T (le zeroF y) = le-trans zeroF x y h k in
     ⊎-elim
@@ -71,7 +74,8 @@ positive-clear nan h = absurd (unfold lt in h)
 positive-clear (inf true) h = absurd (lt-not-le zeroF (inf true) h (bottom-le zeroF tt))
 positive-clear (inf false) h = tt
 positive-clear (fin false m e) h = tt
-positive-clear (fin true m e) h = absurd (lt-not-le zeroF (fin true m e) h (at-most→le (fin true m e) zeroF tt tt (omega arith)))
+positive-clear (fin true m e) h =
+    absurd (lt-not-le zeroF (fin true m e) h (at-most→le (fin true m e) zeroF tt tt (omega arith)))
 
 module _ (x : Float) (u : usual x ≡ true) where
   both : (lt f0 x ≡ true) × (le x greatest ≡ true)
@@ -103,7 +107,8 @@ module _ (s d : Float) (fs : T (fits binary32 s)) (us : usual s ≡ true) where
       sym (is-yes (le-trans d zeroF (rootOf s) h (root-plus s fs (lt-le zeroF s (positive s us)))))
 
 -- ---- two roots
-module _ (l r : Float) (fl : T (fits binary32 l)) (fr : T (fits binary32 r)) (hl : le f0 l ≡ true) (hr : le f0 r ≡ true) where
+module _ (l r : Float) (fl : T (fits binary32 l)) (fr : T (fits binary32 r)) (hl : le f0 l ≡ true)
+    (hr : le f0 r ≡ true) where
   number-left : T (number (rootOf l))
   number-left = le-right zeroF (rootOf l) (root-plus l fl (not-below l hl))
 
@@ -118,7 +123,9 @@ module _ (l r : Float) (fl : T (fits binary32 l)) (fr : T (fits binary32 r)) (hl
   unfolding partsRoots farOff leftFirst
   parted b e = go (le b (rootOf r)) (le b (rootOf l)) refl refl e
     where
-      go : (x y : Bool) → le b (rootOf r) ≡ x → le b (rootOf l) ≡ y → cond x (not y) false ≡ true → true ≡ lt (rootOf l) (rootOf r)
+      go
+          : (x y : Bool) → le b (rootOf r) ≡ x → le b (rootOf l) ≡ y → cond x (not y) false ≡ true
+          → true ≡ lt (rootOf l) (rootOf r)
       go false y p q v = absurd (subst T (sym v) tt)
       go true true p q v = absurd (subst T (sym v) tt)
       go true false p q v =

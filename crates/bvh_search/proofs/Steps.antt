@@ -1,5 +1,5 @@
--- How a law of the walk is shown: by the ways that the tests of one node can come out, and induction on the tree. And the first such law: each node is
--- popped, and each place seen, at most once. Assumes nothing.
+-- How a law of the walk is shown: by the ways that the tests of one node can come out, and induction on the tree. And
+-- the first such law: each node is popped, and each place seen, at most once. Assumes nothing.
 use Prim.Native.Nat.{ℕ, _+_, _≤_}
 use mathlib.Core.Path.{_≡_, refl}
 use mathlib.Core.Bool.{Bool, true, false, cond}
@@ -26,19 +26,28 @@ module _ (o : List ℕ) (w : List ℕ) (f : List Float) (p : Vec3) where
 
   -- ---- what holds however the tests of a node come out
   module _ (P : Walk → Type 0) (s : ℕ) (σ : Walk) where
-    pub at-leaf : (b : Aabb) (c : ℕ) → (T (le (σ .best .d) (boxDist p b)) → P (skip o w f p (leaf b c) s σ)) → P (evaluate o w f p s c σ) → P (walk (leaf b c) s σ)
+    pub at-leaf
+        : (b : Aabb) (c : ℕ) → (T (le (σ .best .d) (boxDist p b)) → P (skip o w f p (leaf b c) s σ))
+        → P (evaluate o w f p s c σ) → P (walk (leaf b c) s σ)
     unfolding visit
     at-leaf b c far here = go (le (σ .best .d) (boxDist p b)) refl
       where
-        go : (x : Bool) → le (σ .best .d) (boxDist p b) ≡ x → P (cond x (skip o w f p (leaf b c) s σ) (evaluate o w f p s c σ))
+        go
+            : (x : Bool) → le (σ .best .d) (boxDist p b) ≡ x
+            → P (cond x (skip o w f p (leaf b c) s σ) (evaluate o w f p s c σ))
         go true e = far (yes-of e)
         go false e = here
 
-    pub at-node : (b : Aabb) (l r : Tree) → (T (le (σ .best .d) (boxDist p b)) → P (skip o w f p (node b l r) s σ)) → P (walk r (s + weight l) (walk l s (more o w f p σ))) → P (walk l s (walk r (s + weight l) (more o w f p σ))) → P (walk (node b l r) s σ)
+    pub at-node
+        : (b : Aabb) (l r : Tree) → (T (le (σ .best .d) (boxDist p b)) → P (skip o w f p (node b l r) s σ))
+        → P (walk r (s + weight l) (walk l s (more o w f p σ))) → P (walk l s (walk r (s + weight l) (more o w f p σ)))
+        → P (walk (node b l r) s σ)
     unfolding visit
     at-node b l r far left right = go (le (σ .best .d) (boxDist p b)) refl (lt (near o w f p l) (near o w f p r))
       where
-        go : (x : Bool) → le (σ .best .d) (boxDist p b) ≡ x → (y : Bool) → P (cond x (skip o w f p (node b l r) s σ) (cond y (walk r (s + weight l) (walk l s (more o w f p σ))) (walk l s (walk r (s + weight l) (more o w f p σ)))))
+        go
+            : (x : Bool) → le (σ .best .d) (boxDist p b) ≡ x → (y : Bool)
+            → P (cond x (skip o w f p (node b l r) s σ) (cond y (walk r (s + weight l) (walk l s (more o w f p σ))) (walk l s (walk r (s + weight l) (more o w f p σ)))))
         go true e y = far (yes-of e)
         go false e true = left
         go false e false = right
@@ -63,8 +72,11 @@ module _ (o : List ℕ) (w : List ℕ) (f : List Float) (p : Vec3) where
     pub pops : σ′ .popped ≤ σ .popped + size t
     pub evals : length (σ′ .seen) ≤ length (σ .seen) + weight t
 
-  counts-then : (b : Aabb) (l r x y : Tree) (σ τ υ : Walk) → size x + size y ≡ size l + size r → weight x + weight y ≡ weight l + weight r → Counts x (more o w f p σ) τ → Counts y τ υ → Counts (node b l r) σ υ
-  counts-then b l r x y σ τ υ e g h k = record { pops = omega (arith, h .pops, k .pops); evals = omega (arith, h .evals, k .evals) }
+  counts-then
+      : (b : Aabb) (l r x y : Tree) (σ τ υ : Walk) → size x + size y ≡ size l + size r
+      → weight x + weight y ≡ weight l + weight r → Counts x (more o w f p σ) τ → Counts y τ υ → Counts (node b l r) σ υ
+  counts-then b l r x y σ τ υ e g h k =
+      record { pops = omega (arith, h .pops, k .pops); evals = omega (arith, h .evals, k .evals) }
 
   pub counts : (t : Tree) (s : ℕ) (σ : Walk) → Counts t σ (visit o w f p t s σ)
   counts (leaf b c) s σ =

@@ -1,5 +1,5 @@
--- A range that is cut: the same objects in another order, and some on both sides. And its boxes: one for each object, and the hull of all is the
--- range's box. By induction on the steps and on the range. Assumes nothing.
+-- A range that is cut: the same objects in another order, and some on both sides. And its boxes: one for each object,
+-- and the hull of all is the range's box. By induction on the steps and on the range. Assumes nothing.
 use Prim.Native.Nat.{ℕ, zero, suc, _+_, _/_, _≤_, _<_}
 use mathlib.Core.Path.{_≡_, refl, ap}
 use mathlib.Core.Bool.{Bool, true, false, cond, _||_}
@@ -21,7 +21,9 @@ pub swapped-perm : (i j : ℕ) (xs : List ℕ) → Perm xs (swapped i j xs)
 unfolding swapped
 swapped-perm i j xs = go (ltb i (length xs)) (ltb j (length xs)) refl refl
   where
-    go : (a b : Bool) → ltb i (length xs) ≡ a → ltb j (length xs) ≡ b → Perm xs (cond a (cond b (set (set xs i (getD xs j 0)) j (getD xs i 0)) xs) xs)
+    go
+        : (a b : Bool) → ltb i (length xs) ≡ a → ltb j (length xs) ≡ b
+        → Perm xs (cond a (cond b (set (set xs i (getD xs j 0)) j (getD xs i 0)) xs) xs)
     go true true p q = exchange-perm xs i j (ltb-true i (length xs) p) (ltb-true j (length xs) q)
     go true false p q = Permᴰ·refl xs
     go false b p q = Permᴰ·refl xs
@@ -56,7 +58,9 @@ evened-inside : (mid n : ℕ) → mid ≤ n → 4 < n → (0 < evened mid n) × 
 unfolding evened
 evened-inside mid n l h = go (eqb mid 0) (eqb mid n) refl refl
   where
-    go : (a b : Bool) → eqb mid 0 ≡ a → eqb mid n ≡ b → (0 < cond (a || b) (n / 2) mid) × (cond (a || b) (n / 2) mid < n)
+    go
+        : (a b : Bool) → eqb mid 0 ≡ a → eqb mid n ≡ b
+        → (0 < cond (a || b) (n / 2) mid) × (cond (a || b) (n / 2) mid < n)
     go true b p q = (omega arith, omega arith)
     go false true p q = (omega arith, omega arith)
     go false false p q =
@@ -91,7 +95,8 @@ unfolding members
 members-length bs [] = refl
 members-length bs (o ∷ os) = ap suc (members-length bs os)
 
-pub members-at : (bs : List Aabb) (os : List ℕ) (i : ℕ) → i < length os → boxAt (members bs os) i ≡ boxAt bs (getD os i 0)
+pub members-at
+    : (bs : List Aabb) (os : List ℕ) (i : ℕ) → i < length os → boxAt (members bs os) i ≡ boxAt bs (getD os i 0)
 unfolding members
 members-at bs [] i h = absurd (omega arith)
 members-at bs (o ∷ os) zero h = refl

@@ -1,8 +1,9 @@
--- Permutations of a list of numbers: what holds of all members before holds of all after, members that differ still differ, and two halves may be
--- permuted apart. By induction on the permutation. Assumes nothing.
+-- Permutations of a list of numbers: what holds of all members before holds of all after, members that differ still
+-- differ, and two halves may be permuted apart. By induction on the permutation. Assumes nothing.
 use Prim.Native.Nat.{ℕ, zero, suc, _<_}
 use mathlib.Core.Path.{_≡_, refl, sym, ap, subst, _∙_}
-use mathlib.Core.List.{List, [], _∷_, _++_, List·Permᴰ, List·Permᴰ·nil, List·Permᴰ·cons, List·Permᴰ·swap, List·Permᴰ·trans, Permᴰ·refl, Permᴰ·append-left, Permᴰ·append-right}
+use mathlib.Core.List.{List, [], _∷_, _++_, List·Permᴰ, List·Permᴰ·nil, List·Permᴰ·cons, List·Permᴰ·swap}
+use mathlib.Core.List.{List·Permᴰ·trans, Permᴰ·refl, Permᴰ·append-left, Permᴰ·append-right}
 use native.Mathlib.Omega.{arith}
 use lib.ListN.{length, getD, set, take, drop, take-append-drop}
 
@@ -49,7 +50,8 @@ perm-apart (List·Permᴰ·swap e e′) h (suc (suc i)) (suc (suc j)) l m q = h 
 perm-apart (List·Permᴰ·trans p p′) h i j l m q = perm-apart p′ (perm-apart p h) i j l m q
 
 -- ---- both halves in another order
-pub perm-halves : (m : ℕ) (os : List ℕ) {xs ys : List ℕ} → Perm (take m os) xs → Perm (drop m os) ys → Perm os (xs ++ ys)
+pub perm-halves
+    : (m : ℕ) (os : List ℕ) {xs ys : List ℕ} → Perm (take m os) xs → Perm (drop m os) ys → Perm os (xs ++ ys)
 perm-halves m os {xs} {ys} p q =
     subst (λ (l : List ℕ). Perm l (xs ++ ys)) (take-append-drop m os)
     (List·Permᴰ·trans (Permᴰ·append-right (drop m os) p) (Permᴰ·append-left xs q))
@@ -62,7 +64,8 @@ put-perm (y ∷ xs) (suc j) x h =
     List·Permᴰ·trans (List·Permᴰ·swap refl refl)
     (List·Permᴰ·trans (List·Permᴰ·cons refl (put-perm xs j x (omega arith))) (List·Permᴰ·swap refl refl))
 
-pub exchange-perm : (xs : List ℕ) (i j : ℕ) → i < length xs → j < length xs → Perm xs (set (set xs i (getD xs j 0)) j (getD xs i 0))
+pub exchange-perm
+    : (xs : List ℕ) (i j : ℕ) → i < length xs → j < length xs → Perm xs (set (set xs i (getD xs j 0)) j (getD xs i 0))
 exchange-perm [] i j h k = absurd (omega arith)
 exchange-perm (x ∷ xs) zero zero h k = Permᴰ·refl (x ∷ xs)
 exchange-perm (x ∷ xs) zero (suc j) h k = put-perm xs j x (omega arith)

@@ -1,4 +1,5 @@
--- A box put into a table of boxes is put into the list of its boxes, and so for each place of the list. By the place of each float. Assumes nothing.
+-- A box put into a table of boxes is put into the list of its boxes, and so for each place of the list. By the place of
+-- each float. Assumes nothing.
 use Prim.Native.Nat.{ℕ, suc, _+_, _-_, _*_, _/_, _≤_, _<_}
 use mathlib.Core.Path.{_≡_, sym, ap, subst, _∙_}
 use mathlib.Core.Logic.{_⊎_, ⊎-elim, inl, inr}
@@ -7,7 +8,8 @@ use native.Mathlib.Nat.{add-zero}
 use native.Mathlib.Numerals.{add-one}
 use native.Mathlib.Omega.{arith}
 use lib.ListN.{length, getD, set, take, drop, length-set, length-append, length-take, length-drop, List·getD-append}
-use lib.Seq.{sets-eq, set-out, length-take-le, getD-take, getD-drop, getD-append-add, getD-set-same, getD-set-other, ext-getD}
+use lib.Seq.{sets-eq, set-out, length-take-le, getD-take, getD-drop, getD-append-add, getD-set-same, getD-set-other}
+use lib.Seq.{ext-getD}
 use lib.Ieee.{Float, nan}
 use borrow.Author.Tests.{lt-ltb, le-ltb}
 use Rattle.sdf.specs.declared.Aabb.{Aabb}
@@ -96,7 +98,9 @@ box-same f k b h =
     let g = inner f (6 * k) b (omega arith) in
     rw (rw add-zero at (g 0), g 1, g 2, g 3, g 4, g 5)
 
-box-other : (f : List Float) (k j : ℕ) (b : Aabb) → k < length f / 6 → (j ≡ k → ⊥) → tableBox (with f (6 * k) b) j ≡ tableBox f j
+box-other
+    : (f : List Float) (k j : ℕ) (b : Aabb) → k < length f / 6 → (j ≡ k → ⊥)
+    → tableBox (with f (6 * k) b) j ≡ tableBox f j
 box-other f k j b h n =
     let g : (d : ℕ) → d < 6 → getD (with f (6 * k) b) (6 * j + d) nan ≡ getD f (6 * j + d) nan
     = λ d q. outer f (6 * k) b (omega arith) (6 * j + d)

@@ -1,4 +1,5 @@
--- What the loops over a range and over the bins need at a turn and at their end. By the definitions, one step of each. Assumes nothing.
+-- What the loops over a range and over the bins need at a turn and at their end. By the definitions, one step of each.
+-- Assumes nothing.
 use Prim.Native.Nat.{ℕ, zero, suc, _+_, _-_, _/_, _≤_, _<_}
 use mathlib.Core.Path.{_≡_, refl, sym, ap, _∙_}
 use mathlib.Core.Bool.{Bool, cond}
@@ -17,7 +18,8 @@ use Rattle.bvh_split.specs.declared.Span.{Span}
 use Rattle.bvh_split.specs.declared.Sweep.{Sweep}
 use Rattle.bvh_split.specs.Inside.Table.{tableBoxes, putBox}
 use Rattle.bvh_split.specs.Range.{members, grow, spanFrom}
-use Rattle.bvh_split.specs.Bins.{binOf, plus, Bins, noBins, dropIn, binsFrom, area, leftBox, leftCount, takeBin, choose, stepAt, sweepFrom, splitBy}
+use Rattle.bvh_split.specs.Bins.{binOf, plus, Bins, noBins, dropIn, binsFrom, area, leftBox, leftCount, takeBin}
+use Rattle.bvh_split.specs.Bins.{choose, stepAt, sweepFrom, splitBy}
 use Rattle.bvh_split.specs.Inside.Sums.{binned, leftArea, leftThrough}
 use Rattle.bvh_split.specs.Part.{swapped, goesLeft, Parted, partFrom}
 use Rattle.bvh_split.proofs.Table.{box-count, length-put-box, boxes-put}
@@ -56,7 +58,9 @@ drop-binned : (g : Grid) (f f' : List Float) (n n' : List ℕ) (k : ℕ) (m : Aa
 unfolding dropIn
 drop-binned g f f' n n' k m e p q = rw (p, q, boxes-put, e)
 
-pub bins-turn : (bs : List Aabb) (os : List ℕ) (i : ℕ) (g : Grid) (f f' : List Float) (n n' : List ℕ) (k : ℕ) (m : Aabb) (σ : Bins) → i < length os
+pub bins-turn
+    : (bs : List Aabb) (os : List ℕ) (i : ℕ) (g : Grid) (f f' : List Float) (n n' : List ℕ) (k : ℕ) (m : Aabb) (σ : Bins)
+    → i < length os
     → m ≡ boxAt bs (getD os i 0) → k ≡ binOf g m
     → f' ≡ putBox f k (merge (boxAt (tableBoxes f) k) m) → n' ≡ set n k (plus (getD n k 0) 1)
     → binsFrom g (binned f n) (members bs (drop i os)) ≡ σ → binsFrom g (binned f' n') (members bs (drop (i + 1) os)) ≡ σ
@@ -68,12 +72,16 @@ module _ (t t' : List Float) (k : ℕ) (b : Aabb) (p : t' ≡ putBox t k b) wher
   pub length-turn : length t' ≡ length t
   length-turn = ap length p ∙ length-put-box t k b
 
-  pub empty-turn : b ≡ nowhere → k < length t / 6 → take k (tableBoxes t) ≡ replicate k nowhere → take (k + 1) (tableBoxes t') ≡ replicate (k + 1) nowhere
+  pub empty-turn
+      : b ≡ nowhere → k < length t / 6 → take k (tableBoxes t) ≡ replicate k nowhere
+      → take (k + 1) (tableBoxes t') ≡ replicate (k + 1) nowhere
   empty-turn e h q =
       rw (p, boxes-put, e, add-one, take-suc-set (tableBoxes t) k nowhere (omega (arith, box-count t)), q)
       (replicate-append-replicate k 1 nowhere ∙ ap (λ (n : ℕ). replicate n nowhere) (add-one k))
 
-pub empty-all : (t : List Float) (k n : ℕ) → length t / 6 ≡ n → n ≤ k → k ≤ n → take k (tableBoxes t) ≡ replicate k nowhere → tableBoxes t ≡ replicate n nowhere
+pub empty-all
+    : (t : List Float) (k n : ℕ) → length t / 6 ≡ n → n ≤ k → k ≤ n → take k (tableBoxes t) ≡ replicate k nowhere
+    → tableBoxes t ≡ replicate n nowhere
 empty-all t k n e h h' p =
     let q : k ≡ n = omega arith in
     sym (take-all k (tableBoxes t) (omega (arith, box-count t))) ∙ p ∙ ap (λ (m : ℕ). replicate m nowhere) q
@@ -115,7 +123,9 @@ sweep-none σ zero s h = refl
 sweep-none σ (suc i) s h = absurd (omega arith)
 
 -- the bins of a range, filled and swept, from what each step says
-pub best-of : (g : Grid) (ms : List Aabb) (f f' : List Float) (n n' : List ℕ) (areas : List Float) (counts : List ℕ) (m r : ℕ) → m ≡ 12 → n ≡ replicate 12 0
+pub best-of
+    : (g : Grid) (ms : List Aabb) (f f' : List Float) (n n' : List ℕ) (areas : List Float) (counts : List ℕ) (m r : ℕ)
+    → m ≡ 12 → n ≡ replicate 12 0
     → tableBoxes f ≡ replicate m nowhere → binned f' n' ≡ binsFrom g (binned f n) ms
     → (areas ≡ listFrom (leftArea (binned f' n')) 0 12) × (counts ≡ listFrom (leftThrough (binned f' n')) 0 12)
     → (areas ≡ listFrom (leftArea (binned f' n')) 0 12 → counts ≡ listFrom (leftThrough (binned f' n')) 0 12 → r ≡ splitBy (binned f' n'))
@@ -137,12 +147,15 @@ module _ (bs : List Aabb) (g : Grid) (split n i : ℕ) where
       ap (λ (k : ℕ). partFrom bs g split k i mid os) e
 
   -- by the test's outcome
-  pub part-more : (mid mid' : ℕ) (os os' : List ℕ) (b : Bool) (p : Parted) → i < n → goesLeft bs g split (getD os i 0) ≡ b
+  pub part-more
+      : (mid mid' : ℕ) (os os' : List ℕ) (b : Bool) (p : Parted) → i < n → goesLeft bs g split (getD os i 0) ≡ b
       → mid' ≡ cond b (mid + 1) mid → os' ≡ cond b (swapped i mid os) os → partFrom bs g split (n - i) i mid os ≡ p
       → partFrom bs g split (n - (i + 1)) (i + 1) mid' os' ≡ p
   part-more mid mid' os os' b p h t m o q = rw (m, o, sym t) (sym (part-step mid os h) ∙ q)
 
-  pub part-none : (mid : ℕ) (os : List ℕ) (p : Parted) → n ≤ i → partFrom bs g split (n - i) i mid os ≡ p → (mid ≡ p .mid) × (os ≡ p .order)
+  pub part-none
+      : (mid : ℕ) (os : List ℕ) (p : Parted) → n ≤ i → partFrom bs g split (n - i) i mid os ≡ p
+      → (mid ≡ p .mid) × (os ≡ p .order)
   unfolding partFrom
   part-none mid os p h q =
       let e : n - i ≡ 0 = omega arith in

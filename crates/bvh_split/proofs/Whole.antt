@@ -1,4 +1,5 @@
--- A float cut to a whole number, by the tests with 0 and with 11: what the cut asks for, and what it gives. By the cases of a value. Assumes nothing.
+-- A float cut to a whole number, by the tests with 0 and with 11: what the cut asks for, and what it gives. By the
+-- cases of a value. Assumes nothing.
 use Prim.Native.Nat.{ℕ, _+_, _*_, _/_, _^_, _≤_, _<_}
 use mathlib.Core.Path.{_≡_, refl, sym, ap, subst, _∙_}
 use mathlib.Core.Bool.{true, false}

@@ -3,12 +3,11 @@ use Prim.Native.Nat.{ℕ, zero, suc, _+_, _/_}
 use mathlib.Core.Bool.{Bool, cond, _||_}
 use mathlib.Core.List.{List}
 use lib.ListN.{length, getD, set}
-use lib.Dec.{ltb, leb, eqb}
+use lib.Dec.{ltb, eqb}
 use Rattle.sdf.specs.declared.Aabb.{Aabb}
 use Rattle.bvh_boxes.specs.Boxes.{boxAt}
 use Rattle.bvh_split.specs.declared.Grid.{Grid}
-use Rattle.bvh_split.specs.declared.Span.{Span}
-use Rattle.bvh_split.specs.Range.{members, spanOf, extentOf, stops}
+use Rattle.bvh_split.specs.Range.{members}
 use Rattle.bvh_split.specs.Bins.{gridOf, binOf, noBins, binsFrom, splitBy}
 
 -- the elements at i and j exchanged, where both are there

@@ -1,14 +1,13 @@
 // One node of the builder: the range of objects it covers, whether it is a leaf, and where the source cuts it in two.
 ghost use mathlib.Core.Path.{_≡_};
-ghost use mathlib.Core.List.{List};
 ghost use Prim.Native.Nat.{_/_};
 ghost use lib.ListN.{length, getD, set, replicate};
 ghost use Rattle.words.specs.Lists.{listFrom};
 ghost use Rattle.bvh_boxes.specs.Boxes.{nowhere, merge, boxAt};
-ghost use Rattle.bvh_split.specs.Range.{members, point, grow, spanFrom, spanOf, extentOf, axisOf, stops};
-ghost use Rattle.bvh_split.specs.Bins.{gridOf, binAt, binOf, plus, Bins, noBins, binsFrom, area, leftBox};
-ghost use Rattle.bvh_split.specs.Bins.{leftCount, asFloat, costOf, choose, takeBin, stepAt, sweepFrom, splitBy};
-ghost use Rattle.bvh_split.specs.Part.{swapped, goesLeft, parted, evened, splitOf, cutOf};
+ghost use Rattle.bvh_split.specs.Range.{members, point, grow, spanOf, extentOf, axisOf, stops};
+ghost use Rattle.bvh_split.specs.Bins.{gridOf, binAt, binOf, plus, noBins, binsFrom, area};
+ghost use Rattle.bvh_split.specs.Bins.{costOf, choose, takeBin, splitBy};
+ghost use Rattle.bvh_split.specs.Part.{swapped, goesLeft, parted, evened, cutOf};
 ghost use Rattle.bvh_split.specs.Inside.Table.{tableBoxes, putBox};
 ghost use Rattle.bvh_split.specs.Inside.Sums.{binned, leftArea, leftThrough};
 use sdf::Aabb;

@@ -1,4 +1,4 @@
--- `bvh_boxes::at_most` meets its contract. Assumes nothing.
+-- `bvh_boxes::at_most` meets its contract, by those of its calls. Assumes nothing.
 use Rattle.bvh_boxes.specs.Boxes.{atMost}
 use borrow.Author.Needs.{needs}
 use Rattle.bvh_boxes.proofs.at_most.Statement.{statement}

@@ -1,4 +1,4 @@
--- `bvh_boxes::finite` meets its contract. Assumes nothing.
+-- `bvh_boxes::finite` meets its contract, by those of its calls. Assumes nothing.
 use Rattle.bvh_boxes.specs.Boxes.{finiteBox}
 use borrow.Author.Needs.{needs}
 use Rattle.bvh_boxes.proofs.finite.Statement.{statement}

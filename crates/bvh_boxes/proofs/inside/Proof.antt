@@ -1,4 +1,4 @@
--- `bvh_boxes::inside` meets its contract. Assumes nothing.
+-- `bvh_boxes::inside` meets its contract, by those of its calls. Assumes nothing.
 use Rattle.bvh_boxes.specs.Boxes.{inside}
 use borrow.Author.Needs.{needs}
 use Rattle.bvh_boxes.proofs.inside.Statement.{statement}

@@ -1,4 +1,4 @@
--- `bvh_boxes::merge` meets its contract. Assumes nothing.
+-- `bvh_boxes::merge` meets its contract, by those of its calls. Assumes nothing.
 use Rattle.bvh_boxes.specs.Boxes.{merge}
 use borrow.Author.Needs.{needs}
 use Rattle.bvh_boxes.proofs.merge.Statement.{statement}

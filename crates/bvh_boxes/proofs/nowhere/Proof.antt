@@ -1,4 +1,4 @@
--- `bvh_boxes::nowhere` meets its contract. Assumes nothing.
+-- `bvh_boxes::nowhere` meets its contract, by those of its calls. Assumes nothing.
 use Rattle.vec.specs.Vec.{vsplat}
 use borrow.Author.Needs.{needs}
 use Rattle.bvh_boxes.proofs.nowhere.Statement.{statement}

@@ -1,10 +1,12 @@
--- `bvh_build::build_recursive` meets its contract: each return is a case of one level, and the range shrinks at each call. Assumes nothing.
+-- `bvh_build::build_recursive` meets its contract: each return is a case of one level, and the range shrinks at each
+-- call. Assumes nothing.
 use borrow.Author.Needs.{needs}
 use native.Mathlib.Omega.{arith}
 use mathlib.Core.Path.{_≡_, sym}
 use mathlib.Core.List.{_++_}
 use lib.ListN.{length, drop}
-use Rattle.bvh_build.proofs.Level.{Cut, cut-known, back-length, right-falls, whole-length, lays-none, lays-leaf, lays-node}
+use Rattle.bvh_build.proofs.Level.{Cut, cut-known, back-length, right-falls, whole-length, lays-none, lays-leaf}
+use Rattle.bvh_build.proofs.Level.{lays-node}
 use Prim.Native.Nat.{ℕ, _<_}
 use borrow.Fn.Kinds.{In}
 use borrow.Fn.PlainCycle.{Measures, is, falls, and}
@@ -67,7 +69,9 @@ R t = (
 )
 
 -- what is known of the cut, and of the range when its left part is back
-cut-of : (t : ℕ) (c : build-recursive-lts.After-cut (R t) (build-recursive-at t) build-recursive.Post) → Cut (c .before .before .before .before .before .before .before .before .before .before .before .before .args .os .now) (c .cut .last .0) (c .cut .result)
+cut-of
+    : (t : ℕ) (c : build-recursive-lts.After-cut (R t) (build-recursive-at t) build-recursive.Post)
+    → Cut (c .before .before .before .before .before .before .before .before .before .before .before .before .args .os .now) (c .cut .last .0) (c .cut .result)
 cut-of t c =
     let s = c .before .before .before in
     let o = s .before .before .before .before in
@@ -76,36 +80,46 @@ cut-of t c =
 back-of : (t : ℕ) (c : build-recursive-lts.After-build-recursive (R t) (build-recursive-at t) build-recursive.Post)
     → length (c .build-recursive .last .1 .0 ++ drop (c .before .before .before .before .before .before .cut .result) (c .before .before .before .before .before .before .cut .last .0))
     ≡ length (c .before .before .before .before .before .before .before .before .before .before .before .before .before .before .before .before .before .before .args .os .now)
-back-of t c = back-length _ _ (c .build-recursive .last .1 .0) _ (cut-of t (c .before .before .before .before .before .before)) (c .build-recursive .kept .1 .0)
+back-of t c =
+    back-length _ _ (c .build-recursive .last .1 .0) _ (cut-of t (c .before .before .before .before .before .before))
+    (c .build-recursive .kept .1 .0)
 
 build-recursive-returns : (t : ℕ) → build-recursive-lts.Need-returns (R t) (build-recursive-at t) build-recursive.Post
 build-recursive-returns t c = lays-none _ _ _ _ _ _ _ _ _ (c .if1 .taken)
 
-build-recursive-span-of-requires : (t : ℕ) → build-recursive-lts.Need-span-of-requires (R t) (build-recursive-at t) build-recursive.Post
+build-recursive-span-of-requires
+    : (t : ℕ) → build-recursive-lts.Need-span-of-requires (R t) (build-recursive-at t) build-recursive.Post
 build-recursive-span-of-requires t c κs = search needs
 
-build-recursive-extent-requires : (t : ℕ) → build-recursive-lts.Need-extent-requires (R t) (build-recursive-at t) build-recursive.Post
+build-recursive-extent-requires
+    : (t : ℕ) → build-recursive-lts.Need-extent-requires (R t) (build-recursive-at t) build-recursive.Post
 build-recursive-extent-requires t c κs = search needs
 
-build-recursive-stops-requires : (t : ℕ) → build-recursive-lts.Need-stops-requires (R t) (build-recursive-at t) build-recursive.Post
+build-recursive-stops-requires
+    : (t : ℕ) → build-recursive-lts.Need-stops-requires (R t) (build-recursive-at t) build-recursive.Post
 build-recursive-stops-requires t c κs = search needs
 
-build-recursive-narrow-requires : (t : ℕ) → build-recursive-lts.Need-narrow-requires (R t) (build-recursive-at t) build-recursive.Post
+build-recursive-narrow-requires
+    : (t : ℕ) → build-recursive-lts.Need-narrow-requires (R t) (build-recursive-at t) build-recursive.Post
 build-recursive-narrow-requires t c κs = search needs
 
-build-recursive-narrow-requires-2 : (t : ℕ) → build-recursive-lts.Need-narrow-requires-2 (R t) (build-recursive-at t) build-recursive.Post
+build-recursive-narrow-requires-2
+    : (t : ℕ) → build-recursive-lts.Need-narrow-requires-2 (R t) (build-recursive-at t) build-recursive.Post
 build-recursive-narrow-requires-2 t c κs = search needs
 
-build-recursive-put-node-requires : (t : ℕ) → build-recursive-lts.Need-put-node-requires (R t) (build-recursive-at t) build-recursive.Post
+build-recursive-put-node-requires
+    : (t : ℕ) → build-recursive-lts.Need-put-node-requires (R t) (build-recursive-at t) build-recursive.Post
 build-recursive-put-node-requires t c κs = search needs
 
 build-recursive-add-t25 : (t : ℕ) → build-recursive-lts.Need-add-t25 (R t) (build-recursive-at t) build-recursive.Post
 build-recursive-add-t25 t c = omega (arith, (c .before .before .before .before .before .before .before .before .before .before .before .if1 .left))
 
-build-recursive-same-length : (t : ℕ) → build-recursive-lts.Need-same-length (R t) (build-recursive-at t) build-recursive.Post
+build-recursive-same-length
+    : (t : ℕ) → build-recursive-lts.Need-same-length (R t) (build-recursive-at t) build-recursive.Post
 build-recursive-same-length t c = search needs
 
-build-recursive-returns-2 : (t : ℕ) → build-recursive-lts.Need-returns-2 (R t) (build-recursive-at t) build-recursive.Post
+build-recursive-returns-2
+    : (t : ℕ) → build-recursive-lts.Need-returns-2 (R t) (build-recursive-at t) build-recursive.Post
 build-recursive-returns-2 t c =
     let n = c .before .before in
     let s = n .before .before .before in
@@ -113,10 +127,12 @@ build-recursive-returns-2 t c =
     lays-leaf _ _ _ _ _ (o .span-of .ensures) (s .before .extent .ensures) (s .stops .ensures) _ _ _ _ _ _ _ (n .before .before .if2 .taken) (n .narrow .ensures)
     (c .before .narrow2 .ensures) (c .put-node .ensures)
 
-build-recursive-cut-requires : (t : ℕ) → build-recursive-lts.Need-cut-requires (R t) (build-recursive-at t) build-recursive.Post
+build-recursive-cut-requires
+    : (t : ℕ) → build-recursive-lts.Need-cut-requires (R t) (build-recursive-at t) build-recursive.Post
 build-recursive-cut-requires t c κs = search needs
 
-build-recursive-less-requires : (t : ℕ) → build-recursive-lts.Need-less-requires (R t) (build-recursive-at t) build-recursive.Post
+build-recursive-less-requires
+    : (t : ℕ) → build-recursive-lts.Need-less-requires (R t) (build-recursive-at t) build-recursive.Post
 build-recursive-less-requires t c κs = search needs
 
 build-recursive-slice-relend-prefix-build-recursive :
@@ -127,7 +143,8 @@ build-recursive-slice-aggregate-build-recursive :
     (t : ℕ) → build-recursive-lts.Need-slice-aggregate-build-recursive (R t) (build-recursive-at t) build-recursive.Post
 build-recursive-slice-aggregate-build-recursive t c = sym (cut-of t (c .before .before .before .before .before) .taken)
 
-build-recursive-add-build-recursive : (t : ℕ) → build-recursive-lts.Need-add-build-recursive (R t) (build-recursive-at t) build-recursive.Post
+build-recursive-add-build-recursive
+    : (t : ℕ) → build-recursive-lts.Need-add-build-recursive (R t) (build-recursive-at t) build-recursive.Post
 build-recursive-add-build-recursive t c = omega (arith, (c .before .before .before .before .before .before .before .before .before .before .before .before .before .before .if1 .left))
 
 build-recursive-build-recursive-requires :
@@ -136,22 +153,26 @@ build-recursive-build-recursive-requires t c κs =
     let k = cut-of t (c .before .before .before .before .before) in
     (omega (arith, c .before .before .before .before .before .before .before .before .before .before .before .before .before .before .before .before .before .pre .0), tt)
 
-build-recursive-narrow-requires-3 : (t : ℕ) → build-recursive-lts.Need-narrow-requires-3 (R t) (build-recursive-at t) build-recursive.Post
+build-recursive-narrow-requires-3
+    : (t : ℕ) → build-recursive-lts.Need-narrow-requires-3 (R t) (build-recursive-at t) build-recursive.Post
 build-recursive-narrow-requires-3 t c κs = search needs
 
-build-recursive-put-node-requires-2 : (t : ℕ) → build-recursive-lts.Need-put-node-requires-2 (R t) (build-recursive-at t) build-recursive.Post
+build-recursive-put-node-requires-2
+    : (t : ℕ) → build-recursive-lts.Need-put-node-requires-2 (R t) (build-recursive-at t) build-recursive.Post
 build-recursive-put-node-requires-2 t c κs = search needs
 
 build-recursive-wrapping-add-usize-requires :
     (t : ℕ) → build-recursive-lts.Need-wrapping-add-usize-requires (R t) (build-recursive-at t) build-recursive.Post
 build-recursive-wrapping-add-usize-requires t c κs = search needs
 
-build-recursive-mul-build-recursive : (t : ℕ) → build-recursive-lts.Need-mul-build-recursive (R t) (build-recursive-at t) build-recursive.Post
+build-recursive-mul-build-recursive
+    : (t : ℕ) → build-recursive-lts.Need-mul-build-recursive (R t) (build-recursive-at t) build-recursive.Post
 build-recursive-mul-build-recursive t c =
     let k = cut-of t (c .before .before .before .before .before .before .before .before .before .before .before .before .before) in
     omega (arith, c .before .before .before .before .before .before .before .before .before .before .before .before .before .before .before .before .before .before .before .before .before .before .before .before .before .good .1 .0 .1)
 
-build-recursive-sub-build-recursive : (t : ℕ) → build-recursive-lts.Need-sub-build-recursive (R t) (build-recursive-at t) build-recursive.Post
+build-recursive-sub-build-recursive
+    : (t : ℕ) → build-recursive-lts.Need-sub-build-recursive (R t) (build-recursive-at t) build-recursive.Post
 build-recursive-sub-build-recursive t c =
     let k = cut-of t (c .before .before .before .before .before .before .before .before .before .before .before .before .before) in
     omega (arith, back-of t (c .before .before .before .before .before .before .before))
@@ -173,17 +194,20 @@ build-recursive-build-recursive-requires-2 t c κs =
     let k = l .before .before .before .before .before .before in
     (right-falls _ _ (l .build-recursive .last .1 .0) _ (cut-of t k) (l .build-recursive .kept .1 .0) _ (k .before .before .before .before .before .before .before .before .before .before .before .before .pre .0), tt)
 
-build-recursive-both-requires : (t : ℕ) → build-recursive-lts.Need-both-requires (R t) (build-recursive-at t) build-recursive.Post
+build-recursive-both-requires
+    : (t : ℕ) → build-recursive-lts.Need-both-requires (R t) (build-recursive-at t) build-recursive.Post
 build-recursive-both-requires t c κs = search needs
 
-build-recursive-same-length-2 : (t : ℕ) → build-recursive-lts.Need-same-length-2 (R t) (build-recursive-at t) build-recursive.Post
+build-recursive-same-length-2
+    : (t : ℕ) → build-recursive-lts.Need-same-length-2 (R t) (build-recursive-at t) build-recursive.Post
 build-recursive-same-length-2 t c =
     let r = c .before .before .before in
     let l = r .before .before .before .before .before .before .before .before .before in
     whole-length _ _ (l .build-recursive .last .1 .0) _ (cut-of t (l .before .before .before .before .before .before)) (l .build-recursive .kept .1 .0) (r .build-recursive2 .last .1 .0)
     (r .build-recursive2 .kept .1 .0)
 
-build-recursive-returns-3 : (t : ℕ) → build-recursive-lts.Need-returns-3 (R t) (build-recursive-at t) build-recursive.Post
+build-recursive-returns-3
+    : (t : ℕ) → build-recursive-lts.Need-returns-3 (R t) (build-recursive-at t) build-recursive.Post
 build-recursive-returns-3 t c =
     let r = c .before .before .before in
     let w = r .before .before .before in

@@ -1,11 +1,16 @@
--- `bvh_build::build_with` meets its contract: the table has the plan's boxes and the order its objects. Assumes nothing.
+-- `bvh_build::build_with` meets its contract: the table has the plan's boxes and the order its objects. Assumes
+-- nothing.
 use Rattle.bvh_build.proofs.Whole.{lays-plan}
 use borrow.Author.Needs.{needs}
 use Rattle.bvh_build.proofs.build_with.Statement.{statement}
 use Rattle.bvh_build.proofs.build_with.Tie as tie
 
 returns : tie.Need-returns
-returns c = lays-plan _ _ _ _ _ _ _ _ _ (c .before .before .before .before .before .before .before .before .before .before .before .load-boxes .ensures) (c .before .before .before .before .before .before .before .before .before .number .ensures) (c .before .before .build-recursive .ensures)
+returns c =
+    lays-plan _ _ _ _ _ _ _ _ _
+    (c .before .before .before .before .before .before .before .before .before .before .before .load-boxes .ensures)
+    (c .before .before .before .before .before .before .before .before .before .number .ensures)
+    (c .before .before .build-recursive .ensures)
 
 pub build-with-spec : {M : Type 1} → statement M
 build-with-spec =

@@ -1,4 +1,4 @@
--- `bvh_build::narrow` meets its contract. Assumes nothing.
+-- `bvh_build::narrow` meets its contract: each return is a case of `low32`. Assumes nothing.
 use borrow.Author.Tests.{lt-ltb, le-ltb}
 use borrow.Author.Needs.{needs}
 use Rattle.bvh_build.proofs.narrow.Statement.{statement}

@@ -1,4 +1,5 @@
--- `bvh_build::put_node` meets its contract: nine stores are one laying, and past the last node nothing changes. Assumes nothing.
+-- `bvh_build::put_node` meets its contract: nine stores are one laying, and past the last node nothing changes. Assumes
+-- nothing.
 use native.Mathlib.Omega.{arith}
 use Rattle.bvh_build.proofs.Turns.{node-put}
 use Rattle.bvh_build.proofs.Laid.{laid-past}

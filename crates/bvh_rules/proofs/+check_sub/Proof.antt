@@ -1,4 +1,5 @@
--- `bvh_rules::check_sub` meets its contract: each return is a case of one level of `checkOf`, and the levels left fall. Assumes nothing.
+-- `bvh_rules::check_sub` meets its contract: each return is a case of one level of `checkOf`, and the levels left fall.
+-- Assumes nothing.
 use borrow.Author.Needs.{needs}
 use native.Mathlib.Nat.{pos-of-ne-zero}
 use native.Mathlib.Omega.{arith}
@@ -64,19 +65,42 @@ check-sub-check-sub-requires-2 : (t : ℕ) → check-sub-lts.Need-check-sub-requ
 check-sub-check-sub-requires-2 t c κs = omega arith
 
 check-sub-returns-2 : (t : ℕ) → check-sub-lts.Need-returns-2 (R t) (check-sub-at t) check-sub.Post
-check-sub-returns-2 t c = check-wrong _ _ _ _ _ _ _ _ (c .before .before .before .node-at .ensures) _ (c .before .before .kind-of .ensures) _ (pos-of-ne-zero (c .before .before .before .before .if1 .left)) (c .enum-told .given .1)
+check-sub-returns-2 t c =
+    check-wrong _ _ _ _ _ _ _ _ (c .before .before .before .node-at .ensures) _ (c .before .before .kind-of .ensures) _
+    (pos-of-ne-zero (c .before .before .before .before .if1 .left)) (c .enum-told .given .1)
 
 check-sub-returns-3 : (t : ℕ) → check-sub-lts.Need-returns-3 (R t) (check-sub-at t) check-sub.Post
-check-sub-returns-3 t c = check-leaf _ _ _ _ _ _ _ _ (c .before .before .before .before .node-at .ensures) _ (c .before .before .before .kind-of .ensures) _ (pos-of-ne-zero (c .before .before .before .before .before .if1 .left)) _ _ (c .before .k .given .1)
+check-sub-returns-3 t c =
+    check-leaf _ _ _ _ _ _ _ _ (c .before .before .before .before .node-at .ensures) _
+    (c .before .before .before .kind-of .ensures) _
+    (pos-of-ne-zero (c .before .before .before .before .before .if1 .left)) _ _ (c .before .k .given .1)
 
 check-sub-returns-4 : (t : ℕ) → check-sub-lts.Need-returns-4 (R t) (check-sub-at t) check-sub.Post
-check-sub-returns-4 t c = check-left-bad _ _ _ _ _ _ _ _ (c .before .before .before .before .before .before .before .node-at .ensures) _ (c .before .before .before .before .before .before .kind-of .ensures) _ (pos-of-ne-zero (c .before .before .before .before .before .before .before .before .if1 .left)) _ _ (c .before .before .before .before .k2 .given .1) _ (c .before .before .check-sub .ensures) (c .enum-told2 .given .1)
+check-sub-returns-4 t c =
+    check-left-bad _ _ _ _ _ _ _ _ (c .before .before .before .before .before .before .before .node-at .ensures) _
+    (c .before .before .before .before .before .before .kind-of .ensures) _
+    (pos-of-ne-zero (c .before .before .before .before .before .before .before .before .if1 .left)) _ _
+    (c .before .before .before .before .k2 .given .1) _ (c .before .before .check-sub .ensures)
+    (c .enum-told2 .given .1)
 
 check-sub-returns-5 : (t : ℕ) → check-sub-lts.Need-returns-5 (R t) (check-sub-at t) check-sub.Post
-check-sub-returns-5 t c = check-right _ _ _ _ _ _ _ _ (c .before .before .before .before .before .before .before .before .before .before .node-at .ensures) _ (c .before .before .before .before .before .before .before .before .before .kind-of .ensures) _ (pos-of-ne-zero (c .before .before .before .before .before .before .before .before .before .before .before .if1 .left)) _ _ (c .before .before .before .before .before .before .before .k2 .given .1) _ (c .before .before .before .before .before .check-sub .ensures) _ _ (c .before .before .before .part .given .1) _ (c .before .if2 .taken) (c .check-sub2 .ensures)
+check-sub-returns-5 t c =
+    check-right _ _ _ _ _ _ _ _
+    (c .before .before .before .before .before .before .before .before .before .before .node-at .ensures) _
+    (c .before .before .before .before .before .before .before .before .before .kind-of .ensures) _
+    (pos-of-ne-zero (c .before .before .before .before .before .before .before .before .before .before .before .if1 .left))
+    _ _ (c .before .before .before .before .before .before .before .k2 .given .1) _
+    (c .before .before .before .before .before .check-sub .ensures) _ _ (c .before .before .before .part .given .1) _
+    (c .before .if2 .taken) (c .check-sub2 .ensures)
 
 check-sub-returns-6 : (t : ℕ) → check-sub-lts.Need-returns-6 (R t) (check-sub-at t) check-sub.Post
-check-sub-returns-6 t c = check-other _ _ _ _ _ _ _ _ (c .before .before .before .before .before .before .before .before .before .node-at .ensures) _ (c .before .before .before .before .before .before .before .before .kind-of .ensures) _ (pos-of-ne-zero (c .before .before .before .before .before .before .before .before .before .before .if1 .left)) _ _ (c .before .before .before .before .before .before .k2 .given .1) _ (c .before .before .before .before .check-sub .ensures) _ _ (c .before .before .part .given .1) (c .if2 .left)
+check-sub-returns-6 t c =
+    check-other _ _ _ _ _ _ _ _
+    (c .before .before .before .before .before .before .before .before .before .node-at .ensures) _
+    (c .before .before .before .before .before .before .before .before .kind-of .ensures) _
+    (pos-of-ne-zero (c .before .before .before .before .before .before .before .before .before .before .if1 .left)) _ _
+    (c .before .before .before .before .before .before .k2 .given .1) _
+    (c .before .before .before .before .check-sub .ensures) _ _ (c .before .before .part .given .1) (c .if2 .left)
 
 pub +check-sub-spec : {M : Type 1} → statement M
 +check-sub-spec = close μ-check-sub λ t. check-sub-lts.spec (R t)

@@ -22,10 +22,15 @@ loop-holds : tie.Need-loop-holds Inv-loop μ-loop
 loop-holds c = (omega arith, omega arith, sym (order-few _ _ (c .if1 .left)))
 
 returns-2 : tie.Need-returns-2 Inv-loop μ-loop
-returns-2 c = sym (marks-high _ _ _ _ (c .before .before .loop-test .taken) _ (c .before .order-at .ensures) (c .if2 .taken)) ∙ c .before .before .before .loop .inv .2
+returns-2 c =
+    sym (marks-high _ _ _ _ (c .before .before .loop-test .taken) _ (c .before .order-at .ensures) (c .if2 .taken))
+    ∙ c .before .before .before .loop .inv .2
 
 returns-3 : tie.Need-returns-3 Inv-loop μ-loop
-returns-3 c = sym (marks-twice _ _ _ _ (c .before .before .before .loop-test .taken) _ (c .before .before .order-at .ensures) (c .before .if2 .left) (c .if3 .taken)) ∙ c .before .before .before .before .loop .inv .2
+returns-3 c =
+    sym
+    (marks-twice _ _ _ _ (c .before .before .before .loop-test .taken) _ (c .before .before .order-at .ensures) (c .before .if2 .left) (c .if3 .taken))
+    ∙ c .before .before .before .before .loop .inv .2
 
 loop-again : tie.Need-loop-again Inv-loop μ-loop
 loop-again c = (omega arith, c .before .before .before .before .loop .inv .1, sym (marks-step _ _ _ _ (c .before .before .before .loop-test .taken) _ (c .before .before .order-at .ensures) (c .before .if2 .left) (c .if3 .left)) ∙ c .before .before .before .before .loop .inv .2)

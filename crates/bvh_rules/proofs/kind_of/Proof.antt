@@ -1,7 +1,8 @@
 -- `bvh_rules::kind_of` meets its contract: each return is a case of `kindOf`. Assumes nothing.
 use mathlib.Core.Path.{sym, _∙_}
 use native.Mathlib.Omega.{arith}
-use Rattle.bvh_rules.proofs.Level.{hull-at, leaf-start, kind-out, kind-inner, kind-started, kind-leaf, kind-no-leaf}
+use Rattle.bvh_rules.proofs.Level.{hull-at, leaf-start, kind-out, kind-inner, kind-started, kind-leaf}
+use Rattle.bvh_rules.proofs.Level.{kind-no-leaf}
 use borrow.Author.Needs.{needs}
 use Rattle.bvh_rules.proofs.kind_of.Statement.{statement}
 use Rattle.bvh_rules.proofs.kind_of.Tie as tie
@@ -10,10 +11,16 @@ add-t10 : tie.Need-add-t10
 add-t10 c = omega (arith, hull-at _ _ _ (sym (c .before .before .before .before .before .hull-ok .ensures) ∙ c .before .before .before .before .if1 .taken))
 
 returns : tie.Need-returns
-returns c = kind-inner _ _ _ _ _ _ (sym (c .before .before .before .before .before .before .hull-ok .ensures) ∙ c .before .before .before .before .before .if1 .taken) (c .before .before .before .if2 .taken) (c .before .if3 .taken)
+returns c =
+    kind-inner _ _ _ _ _ _
+    (sym (c .before .before .before .before .before .before .hull-ok .ensures) ∙ c .before .before .before .before .before .if1 .taken)
+    (c .before .before .before .if2 .taken) (c .before .if3 .taken)
 
 returns-2 : tie.Need-returns-2
-returns-2 c = kind-started _ _ _ _ _ _ (sym (c .before .before .before .before .before .hull-ok .ensures) ∙ c .before .before .before .before .if1 .taken) (c .before .before .if2 .taken) (c .if3 .left)
+returns-2 c =
+    kind-started _ _ _ _ _ _
+    (sym (c .before .before .before .before .before .hull-ok .ensures) ∙ c .before .before .before .before .if1 .taken)
+    (c .before .before .if2 .taken) (c .if3 .left)
 
 add-t13 : tie.Need-add-t13
 add-t13 c = omega (arith, hull-at _ _ _ (sym (c .before .before .before .before .before .hull-ok .ensures) ∙ c .before .before .before .before .if1 .taken))
@@ -22,10 +29,16 @@ add-t15 : tie.Need-add-t15
 add-t15 c = omega (arith, leaf-start _ _ _ _ (sym (c .before .before .leaf-ok .ensures) ∙ c .before .if4 .taken), c .before .before .before .before .before .before .before .good)
 
 returns-3 : tie.Need-returns-3
-returns-3 c = kind-leaf _ _ _ _ _ _ (sym (c .before .before .before .before .before .before .hull-ok .ensures) ∙ c .before .before .before .before .before .if1 .taken) (c .before .before .before .if2 .left) (sym (c .before .before .leaf-ok .ensures) ∙ c .before .if4 .taken)
+returns-3 c =
+    kind-leaf _ _ _ _ _ _
+    (sym (c .before .before .before .before .before .before .hull-ok .ensures) ∙ c .before .before .before .before .before .if1 .taken)
+    (c .before .before .before .if2 .left) (sym (c .before .before .leaf-ok .ensures) ∙ c .before .if4 .taken)
 
 returns-4 : tie.Need-returns-4
-returns-4 c = kind-no-leaf _ _ _ _ _ _ (sym (c .before .before .before .before .before .hull-ok .ensures) ∙ c .before .before .before .before .if1 .taken) (c .before .before .if2 .left) (sym (c .before .leaf-ok .ensures) ∙ c .if4 .left)
+returns-4 c =
+    kind-no-leaf _ _ _ _ _ _
+    (sym (c .before .before .before .before .before .hull-ok .ensures) ∙ c .before .before .before .before .if1 .taken)
+    (c .before .before .if2 .left) (sym (c .before .leaf-ok .ensures) ∙ c .if4 .left)
 
 returns-5 : tie.Need-returns-5
 returns-5 c = kind-out _ _ _ _ _ _ (sym (c .before .hull-ok .ensures) ∙ c .if1 .left)

@@ -1,4 +1,5 @@
--- `bvh_rules::node_at` meets its contract: before the last place by the words read, and past it since the part ends there. Assumes nothing.
+-- `bvh_rules::node_at` meets its contract: before the last place by the words read, and past it since the part ends
+-- there. Assumes nothing.
 use mathlib.Core.Path.{sym}
 use Rattle.bvh_rules.proofs.Lists.{node-here, node-none}
 use borrow.Author.Needs.{needs}

@@ -1,4 +1,4 @@
--- `bvh_search::box_square` meets its contract. Assumes nothing.
+-- `bvh_search::box_square` meets its contract, by those of its calls. Assumes nothing.
 use Rattle.bvh_search.specs.Inside.Machine.{boxSquare}
 use borrow.Author.Needs.{needs}
 use Rattle.bvh_search.proofs.box_square.Statement.{statement}

@@ -1,4 +1,4 @@
--- `bvh_search::hit_in` meets its contract. Assumes nothing.
+-- `bvh_search::hit_in` meets its contract, by those of its calls. Assumes nothing.
 use Rattle.bvh_search.specs.Search.{pieceIn}
 use borrow.Author.Needs.{needs}
 use Rattle.bvh_search.proofs.hit_in.Statement.{statement}

@@ -1,4 +1,4 @@
--- `bvh_search::next` meets its contract. Assumes nothing.
+-- `bvh_search::next` meets its contract: each return is a case of `nextOf`. Assumes nothing.
 use Rattle.bvh_search.specs.Inside.Machine.{nextOf}
 use borrow.Author.Tests.{eq-eqb, ne-eqb}
 use borrow.Author.Needs.{needs}

@@ -1,4 +1,4 @@
--- `bvh_search::parts` meets its contract. Assumes nothing.
+-- `bvh_search::parts` meets its contract: each return is a case of `partsRoots`. Assumes nothing.
 use mathlib.Core.Path.{sym}
 use Rattle.bvh_search.specs.Inside.Machine.{partsRoots}
 use borrow.Author.Needs.{needs}

@@ -1,4 +1,4 @@
--- `bvh_search::popping` meets its contract. Assumes nothing.
+-- `bvh_search::popping` meets its contract, by those of its calls. Assumes nothing.
 use borrow.Author.Needs.{needs}
 use Rattle.bvh_search.proofs.popping.Statement.{statement}
 use Rattle.bvh_search.proofs.popping.Tie as tie

@@ -1,4 +1,5 @@
--- `bvh_search::run` meets its contract: each turn of the loop is a pop, after which what is still to run is the whole run. Assumes nothing.
+-- `bvh_search::run` meets its contract: each turn of the loop is a pop, after which what is still to run is the whole
+-- run. Assumes nothing.
 use borrow.Author.Needs.{needs}
 use Prim.Native.Nat.{_-_}
 use mathlib.Core.Path.{refl}

@@ -1,4 +1,4 @@
--- `bvh_search::square_at` meets its contract. Assumes nothing.
+-- `bvh_search::square_at` meets its contract, by those of its calls. Assumes nothing.
 use Rattle.bvh_search.specs.Inside.Machine.{squareAt}
 use borrow.Author.Needs.{needs}
 use Rattle.bvh_search.proofs.square_at.Statement.{statement}

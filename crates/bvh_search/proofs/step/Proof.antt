@@ -1,4 +1,4 @@
--- `bvh_search::step` meets its contract. Assumes nothing.
+-- `bvh_search::step` meets its contract: each return is a case of `steppedOf`. Assumes nothing.
 use mathlib.Core.Path.{sym}
 use Rattle.bvh_search.specs.Inside.Machine.{steppedOf}
 use borrow.Author.Needs.{needs}

@@ -1,4 +1,4 @@
--- `bvh_search::usual` meets its contract. Assumes nothing.
+-- `bvh_search::usual` meets its contract: each return is a case of `usual`. Assumes nothing.
 use Rattle.bvh_search.specs.Inside.Machine.{usual}
 use Rattle.bvh_search.proofs.usual.Statement.{statement}
 use Rattle.bvh_search.proofs.usual.Tie as tie

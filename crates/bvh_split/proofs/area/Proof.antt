@@ -1,4 +1,4 @@
--- `bvh_split::area` meets its contract. Assumes nothing.
+-- `bvh_split::area` meets its contract: each return is a case of `area`. Assumes nothing.
 use borrow.Author.Needs.{needs}
 use mathlib.Core.Path.{sym}
 use Rattle.bvh_split.specs.Bins.{area}

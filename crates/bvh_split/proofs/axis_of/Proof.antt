@@ -1,4 +1,4 @@
--- `bvh_split::axis_of` meets its contract. Assumes nothing.
+-- `bvh_split::axis_of` meets its contract: each return is a case of `axisOf`. Assumes nothing.
 use borrow.Author.Needs.{needs}
 use mathlib.Core.Path.{sym}
 use Rattle.bvh_split.specs.Range.{axisOf}

@@ -1,4 +1,4 @@
--- `bvh_split::bin_of` meets its contract. Assumes nothing.
+-- `bvh_split::bin_of` meets its contract, by those of its calls. Assumes nothing.
 use borrow.Author.Needs.{needs}
 use Rattle.bvh_split.specs.Bins.{binOf}
 use Rattle.bvh_split.proofs.bin_of.Statement.{statement}

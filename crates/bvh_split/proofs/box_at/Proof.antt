@@ -1,4 +1,4 @@
--- `bvh_split::box_at` meets its contract. Assumes nothing.
+-- `bvh_split::box_at` meets its contract: past the last box lies none. Assumes nothing.
 use borrow.Author.Needs.{needs}
 use Rattle.bvh_split.proofs.Table.{box-here, box-past}
 use Rattle.bvh_split.proofs.box_at.Statement.{statement}

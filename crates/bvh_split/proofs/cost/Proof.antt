@@ -1,4 +1,4 @@
--- `bvh_split::cost` meets its contract. Assumes nothing.
+-- `bvh_split::cost` meets its contract, by those of its calls. Assumes nothing.
 use borrow.Author.Needs.{needs}
 use Rattle.bvh_split.specs.Bins.{costOf}
 use Rattle.bvh_split.proofs.cost.Statement.{statement}

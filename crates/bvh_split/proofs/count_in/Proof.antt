@@ -1,4 +1,4 @@
--- `bvh_split::count_in` meets its contract. Assumes nothing.
+-- `bvh_split::count_in` meets its contract: past the last count nothing changes. Assumes nothing.
 use borrow.Author.Needs.{needs}
 use mathlib.Core.Path.{sym}
 use native.Mathlib.Omega.{arith}

@@ -1,4 +1,4 @@
--- `bvh_split::cut` meets its contract. Assumes nothing.
+-- `bvh_split::cut` meets its contract, by those of its calls. Assumes nothing.
 use borrow.Author.Needs.{needs}
 use Rattle.bvh_split.specs.Part.{splitOf, cutOf}
 use Rattle.bvh_split.proofs.cut.Statement.{statement}

@@ -1,4 +1,4 @@
--- `bvh_split::drop_in` meets its contract. Assumes nothing.
+-- `bvh_split::drop_in` meets its contract, by those of its calls. Assumes nothing.
 use borrow.Author.Needs.{needs}
 use Rattle.bvh_split.proofs.drop_in.Statement.{statement}
 use Rattle.bvh_split.proofs.drop_in.Tie as tie

@@ -1,4 +1,4 @@
--- `bvh_split::evened` meets its contract. Assumes nothing.
+-- `bvh_split::evened` meets its contract: each return is a case of `evened`. Assumes nothing.
 use borrow.Author.Tests.{eq-eqb, ne-eqb}
 use Rattle.bvh_split.specs.Part.{evened}
 use Rattle.bvh_split.proofs.evened.Statement.{statement}

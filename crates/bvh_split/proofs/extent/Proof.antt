@@ -1,4 +1,4 @@
--- `bvh_split::extent` meets its contract. Assumes nothing.
+-- `bvh_split::extent` meets its contract, by those of its calls. Assumes nothing.
 use borrow.Author.Needs.{needs}
 use Rattle.bvh_split.specs.Range.{extentOf}
 use Rattle.bvh_split.proofs.extent.Statement.{statement}

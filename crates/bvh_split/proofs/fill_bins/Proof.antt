@@ -13,7 +13,9 @@ use Rattle.bvh_split.proofs.fill_bins.Statement.{statement}
 use Rattle.bvh_split.proofs.fill_bins.Tie as tie
 
 abbrev Inv-loop : tie.InvT-loop
-Inv-loop os t g b₀ n₀ i₀ b n i = (i ≤ length os) × (binsFrom g (binned b n) (members (tableBoxes t) (drop i os)) ≡ binsFrom g (binned b₀ n₀) (members (tableBoxes t) os))
+Inv-loop os t g b₀ n₀ i₀ b n i =
+    (i ≤ length os) ×
+    (binsFrom g (binned b n) (members (tableBoxes t) (drop i os)) ≡ binsFrom g (binned b₀ n₀) (members (tableBoxes t) os))
 
 abbrev μ-loop : tie.MeasureT-loop
 μ-loop os t g b₀ n₀ i₀ b n i = length os - i

@@ -1,4 +1,4 @@
--- `bvh_split::goes_left` meets its contract. Assumes nothing.
+-- `bvh_split::goes_left` meets its contract, by those of its calls. Assumes nothing.
 use borrow.Author.Needs.{needs}
 use Rattle.bvh_split.specs.Part.{goesLeft}
 use Rattle.bvh_split.proofs.goes_left.Statement.{statement}

@@ -1,4 +1,4 @@
--- `bvh_split::grid_of` meets its contract. Assumes nothing.
+-- `bvh_split::grid_of` meets its contract, by those of its calls. Assumes nothing.
 use borrow.Author.Needs.{needs}
 use Rattle.bvh_split.specs.Bins.{gridOf}
 use Rattle.bvh_split.proofs.grid_of.Statement.{statement}

@@ -1,4 +1,4 @@
--- `bvh_split::grow` meets its contract. Assumes nothing.
+-- `bvh_split::grow` meets its contract, by those of its calls. Assumes nothing.
 use borrow.Author.Needs.{needs}
 use Rattle.bvh_split.specs.Range.{grow}
 use Rattle.bvh_split.proofs.grow.Statement.{statement}

@@ -1,4 +1,4 @@
--- `bvh_split::member` meets its contract. Assumes nothing.
+-- `bvh_split::member` meets its contract, by those of its calls. Assumes nothing.
 use borrow.Author.Needs.{needs}
 use Rattle.bvh_split.proofs.member.Statement.{statement}
 use Rattle.bvh_split.proofs.member.Tie as tie

@@ -1,4 +1,4 @@
--- `bvh_split::object_at` meets its contract. Assumes nothing.
+-- `bvh_split::object_at` meets its contract: past its end a range holds nothing. Assumes nothing.
 use borrow.Author.Needs.{needs}
 use mathlib.Core.Path.{sym}
 use lib.ListN.{List·getD-eq-default}

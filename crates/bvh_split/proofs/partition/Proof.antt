@@ -15,7 +15,9 @@ use Rattle.bvh_split.proofs.partition.Statement.{statement}
 use Rattle.bvh_split.proofs.partition.Tie as tie
 
 abbrev Inv-loop : tie.InvT-loop
-Inv-loop os₀ t g split i₀ mid₀ os i mid = (i ≤ length os₀) × (mid ≤ i) × (length os ≡ length os₀) × (partFrom (tableBoxes t) g split (length os₀ - i) i mid os ≡ parted (tableBoxes t) g split os₀)
+Inv-loop os₀ t g split i₀ mid₀ os i mid =
+    (i ≤ length os₀) × (mid ≤ i) × (length os ≡ length os₀) ×
+    (partFrom (tableBoxes t) g split (length os₀ - i) i mid os ≡ parted (tableBoxes t) g split os₀)
 
 abbrev μ-loop : tie.MeasureT-loop
 μ-loop os₀ t g split i₀ mid₀ os i mid = length os₀ - i

@@ -1,4 +1,4 @@
--- `bvh_split::plus` meets its contract. Assumes nothing.
+-- `bvh_split::plus` meets its contract: each return is a case of `min`. Assumes nothing.
 use borrow.Author.Needs.{needs}
 use native.Mathlib.Omega.{arith}
 use Rattle.bvh_split.specs.Bins.{plus}

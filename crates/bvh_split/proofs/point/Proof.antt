@@ -1,4 +1,4 @@
--- `bvh_split::point` meets its contract. Assumes nothing.
+-- `bvh_split::point` meets its contract, by those of its calls. Assumes nothing.
 use borrow.Author.Needs.{needs}
 use Rattle.bvh_split.proofs.point.Statement.{statement}
 use Rattle.bvh_split.proofs.point.Tie as tie

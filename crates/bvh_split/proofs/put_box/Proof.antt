@@ -1,4 +1,5 @@
--- `bvh_split::put_box` meets its contract. Assumes nothing.
+-- `bvh_split::put_box` meets its contract: six stores are one box put, and past the last box nothing changes. Assumes
+-- nothing.
 use borrow.Author.Needs.{needs}
 use native.Mathlib.Omega.{arith}
 use lib.ListN.{length-set}

@@ -1,4 +1,4 @@
--- `bvh_split::stops` meets its contract. Assumes nothing.
+-- `bvh_split::stops` meets its contract: each return is a case of `stops`. Assumes nothing.
 use borrow.Author.Needs.{needs}
 use borrow.Author.Tests.{le-leb, lt-leb}
 use Rattle.bvh_split.specs.Range.{stops}

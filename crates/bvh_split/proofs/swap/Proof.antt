@@ -1,4 +1,4 @@
--- `bvh_split::swap` meets its contract. Assumes nothing.
+-- `bvh_split::swap` meets its contract: each way is a case of `swapped`. Assumes nothing.
 use borrow.Author.Needs.{needs}
 use borrow.Author.Tests.{lt-ltb, le-ltb}
 use Rattle.bvh_split.specs.Part.{swapped}

@@ -13,7 +13,10 @@ use Rattle.bvh_split.proofs.sweep_left.Statement.{statement}
 use Rattle.bvh_split.proofs.sweep_left.Tie as tie
 
 abbrev Inv-loop : tie.InvT-loop
-Inv-loop b n areas₀ counts₀ hull₀ count₀ i₀ areas counts hull count i = (i ≤ 12) × (length areas ≡ 12) × (length counts ≡ 12) × (hull ≡ leftBox (binned b n) i) × (count ≡ leftCount (binned b n) i) × (take i areas ≡ listFrom (leftArea (binned b n)) 0 i) × (take i counts ≡ listFrom (leftThrough (binned b n)) 0 i)
+Inv-loop b n areas₀ counts₀ hull₀ count₀ i₀ areas counts hull count i =
+    (i ≤ 12) × (length areas ≡ 12) × (length counts ≡ 12) × (hull ≡ leftBox (binned b n) i) ×
+    (count ≡ leftCount (binned b n) i) × (take i areas ≡ listFrom (leftArea (binned b n)) 0 i) ×
+    (take i counts ≡ listFrom (leftThrough (binned b n)) 0 i)
 
 abbrev μ-loop : tie.MeasureT-loop
 μ-loop b n areas₀ counts₀ hull₀ count₀ i₀ areas counts hull count i = 12 - i

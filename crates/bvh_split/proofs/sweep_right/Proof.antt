@@ -12,7 +12,9 @@ use Rattle.bvh_split.proofs.sweep_right.Statement.{statement}
 use Rattle.bvh_split.proofs.sweep_right.Tie as tie
 
 abbrev Inv-loop : tie.InvT-loop
-Inv-loop b n areas counts s₀ i₀ s i = (i ≤ 11) × (areas ≡ listFrom (leftArea (binned b n)) 0 12 → counts ≡ listFrom (leftThrough (binned b n)) 0 12 → sweepFrom (binned b n) i s ≡ sweepFrom (binned b n) 11 noSweep)
+Inv-loop b n areas counts s₀ i₀ s i =
+    (i ≤ 11) ×
+    (areas ≡ listFrom (leftArea (binned b n)) 0 12 → counts ≡ listFrom (leftThrough (binned b n)) 0 12 → sweepFrom (binned b n) i s ≡ sweepFrom (binned b n) 11 noSweep)
 
 abbrev μ-loop : tie.MeasureT-loop
 μ-loop b n areas counts s₀ i₀ s i = i

@@ -1,4 +1,4 @@
--- `bvh_split::take_bin` meets its contract. Assumes nothing.
+-- `bvh_split::take_bin` meets its contract, by those of its calls. Assumes nothing.
 use borrow.Author.Needs.{needs}
 use Rattle.bvh_split.specs.Bins.{takeBin}
 use Rattle.bvh_split.proofs.take_bin.Statement.{statement}
