@@ -1,1 +1,2 @@
 pub mod Enters
+pub mod Raises

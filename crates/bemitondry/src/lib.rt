@@ -276,6 +276,8 @@ fn offered_number(s: Sub, ws: &Words, fs: &Floats) -> u32
 pub fn offer(before: u32, ws: &Words, fs: &Floats, nw: &mut Nodes, ow: &mut Order) -> Reply
     ensures { λ r. ⌜ OfferLeaves before (now (ws .entry)) (now (fs .entry)) r (now (nw .exit)) (now (ow .exit)) ⌝ }
 {
+    // Only as a slice does a table tell the proof its length.
+    let _words: &[u32] = ws;
     let o = plan_test::objects_number(ws, fs);
     if o == 0 {
         let s = bvh_rules::judge(ws, fs, 64);

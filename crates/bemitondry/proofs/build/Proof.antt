@@ -1,41 +1,35 @@
+-- `bemitondry::build` meets its contract: the tree where it is low enough, and else both tables zero. Assumes nothing.
+use Rattle.bemitondry.proofs.Raises.{builds, builds-deep, builds-not}
 use borrow.Author.Needs.{needs}
 use Rattle.bemitondry.proofs.build.Statement.{statement}
 use Rattle.bemitondry.proofs.build.Tie as tie
-use Rattle.bemitondry.proofs.build.Reads as reads
-use Rattle.bemitondry.proofs.build.Lts as lts
-use Rattle.bemitondry.proofs.clear.Reads as clear-reads
-use Rattle.bvh_build.proofs.build.Reads as build-reads
-use Rattle.bvh_build.proofs.narrow.Reads as narrow-reads
-use Rattle.plan_test.proofs.objects_number.Reads as objects-number-reads
-use Rattle.refusals.proofs.lower.Reads as lower-reads
-use Rattle.refusals.proofs.unless.Reads as unless-reads
-use Rattle.reply.proofs.done.Reads as done-reads
-use Rattle.reply.proofs.refused.Reads as refused-reads
 
--- src/lib.rt:221:5
--- src/lib.rt:222:5
--- src/lib.rt:223:9
--- src/lib.rt:225:13
--- src/lib.rt:226:41
--- src/lib.rt:226:13
--- src/lib.rt:228:32
--- src/lib.rt:228:13
--- src/lib.rt:228:13
 returns : tie.Need-returns
-returns c = ?
+returns c =
+    let t = c .before .before in
+    let u = t .before .before in
+    let b = u .before in
+    let i = b .before .before .before in
+    let y = i .before .before in
+    let x = y .before .before in
+    builds _ _ _ _ _ _ _ _ _ _ (i .before .objects-number .ensures) (i .if1 .taken) (b .build .ensures) (u .unless .ensures) (t .before .lower .ensures) _ _ _ _ (x .before .clear-arg .given .0 .1) (y .before .clear-arg2 .given .0 .1) (x .clear .ensures) (y .clear2 .ensures) (t .if2 .taken) (c .before .narrow .ensures) (c .done .ensures)
 
--- src/lib.rt:230:9
--- src/lib.rt:231:9
--- src/lib.rt:232:9
--- src/lib.rt:232:9
 returns-2 : tie.Need-returns-2
-returns-2 c = ?
+returns-2 c =
+    let k = c .before in
+    let j = k .before .before in
+    let t = j .before .before in
+    let u = t .before .before in
+    let b = u .before in
+    let i = b .before .before .before in
+    builds-deep _ _ _ _ _ _ _ _ _ _ (i .before .objects-number .ensures) (i .if1 .taken) (b .build .ensures) (u .unless .ensures) (t .before .lower .ensures) _ _ _ _ _ (j .before .clear-arg3 .given .0 .1) (k .before .clear-arg4 .given .0 .1) (j .clear3 .ensures) (k .clear4 .ensures) (t .if2 .left) (c .refused .ensures)
 
--- src/lib.rt:234:20
--- src/lib.rt:234:5
--- src/lib.rt:218:1
 returns-3 : tie.Need-returns-3
-returns-3 c = ?
+returns-3 c =
+    let i = c .before .before in
+    let y = i .before .before in
+    let x = y .before .before in
+    builds-not _ _ _ _ _ _ _ _ _ (i .before .objects-number .ensures) (i .if1 .left) (c .before .lower2 .ensures) (x .before .clear-arg .given .0 .1) (y .before .clear-arg2 .given .0 .1) (x .clear .ensures) (y .clear2 .ensures) (c .refused2 .ensures)
 
 pub build-spec : {M : Type 1} → statement M
 build-spec =

@@ -1,7 +1,10 @@
 -- `bemitondry::copy_front` meets its contract: the words passed are those of `frontWord`. Assumes nothing.
-use mathlib.Core.Path.{sym, _∙_}
+use Prim.Native.Nat.{ℕ}
+use mathlib.Core.Path.{_∙_, ap}
+use mathlib.Core.Bool.{cond}
+use lib.Dec.{ltb}
 use borrow.Author.Needs.{needs}
-use Prim.Native.Nat.{_≤_, _-_, _+_}
+use Prim.Native.Nat.{_≤_, _-_}
 use mathlib.Core.Path.{_≡_}
 use native.Mathlib.Omega.{arith}
 use lib.ListN.{length, take}
@@ -45,7 +48,9 @@ loop-again : tie.Need-loop-again Inv-loop μ-loop
 unfolding frontWord
 loop-again c =
     let l = c .before .before .before .loop in
-    (search needs, search needs, fill-more (frontWord _ _ _) (l .to) (l .i) _ (search needs) (rw (c .word-if .ensures, c .before .word-in .ensures)) (l .inv .2))
+    let s = c .before .before .before .before .before .args in
+    let e = c .word-if .ensures ∙ ap (λ (x : ℕ). cond (ltb (l .i) (s .k)) x 0) (c .before .word-in .ensures) in
+    (search needs, search needs, fill-more (frontWord (s .ws .now) (s .from) (s .k)) (l .to) (l .i) _ (search needs) e (l .inv .2))
 
 same-length : tie.Need-same-length Inv-loop μ-loop
 same-length c = search needs

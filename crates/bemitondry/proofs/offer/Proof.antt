@@ -1,53 +1,39 @@
+-- `bemitondry::offer` meets its contract: an accepted tree's words, and else both tables zero. Assumes nothing.
+use Rattle.bvh_build.proofs.Whole.{objects-count}
+use Rattle.bemitondry.specs.Trees.{judgedTree}
+use Rattle.bemitondry.proofs.Raises.{offers, offers-bad, offers-not}
 use borrow.Author.Needs.{needs}
 use Rattle.bemitondry.proofs.offer.Statement.{statement}
 use Rattle.bemitondry.proofs.offer.Tie as tie
-use Rattle.bemitondry.proofs.offer.Reads as reads
-use Rattle.bemitondry.proofs.offer.Lts as lts
-use Rattle.bemitondry.proofs.clear.Reads as clear-reads
-use Rattle.bemitondry.proofs.copy_front.Reads as copy-front-reads
-use Rattle.bemitondry.proofs.offered_number.Reads as offered-number-reads
-use Rattle.bemitondry.proofs.size_in.Reads as size-in-reads
-use Rattle.bvh_build.proofs.narrow.Reads as narrow-reads
-use Rattle.bvh_rules.proofs.judge.Reads as judge-reads
-use Rattle.bvh_rules.proofs.object_count.Reads as object-count-reads
-use Rattle.plan_test.proofs.objects_number.Reads as objects-number-reads
-use Rattle.refusals.proofs.lower.Reads as lower-reads
-use Rattle.reply.proofs.done.Reads as done-reads
-use Rattle.reply.proofs.refused.Reads as refused-reads
 
--- src/lib.rt:279:9
--- src/lib.rt:281:13
--- src/lib.rt:282:41
--- src/lib.rt:282:13
--- src/lib.rt:284:42
--- src/lib.rt:284:17
--- src/lib.rt:285:28
--- src/lib.rt:285:53
--- src/lib.rt:285:48
--- src/lib.rt:285:13
--- src/lib.rt:288:17
--- src/lib.rt:289:17
--- src/lib.rt:289:17
--- src/lib.rt:286:13
--- src/lib.rt:292:13
--- src/lib.rt:292:13
 returns : tie.Need-returns
-returns c = ?
+unfolding judgedTree
+returns c =
+    let x = c .before .before in
+    let y = x .before .before in
+    let z = y .before .before in
+    let t = z .before .before in
+    let u = t .before in
+    let v = u .before .before in
+    let count = objects-count _ _ _ (x .before .object-count .ensures) in
+    offers _ _ _ _ _ _ _ (v .before .before .objects-number .ensures) (v .before .if1 .taken) (v .judge .ensures) (u .before .offered-number .ensures) (u .lower .ensures) (v .before .before .before .-words .given .0) _ _ _ _ _ _ _ _ (y .before .copy-front-arg .given .0 .1) (x .copy-front-arg2 .given .0 .1) (t .if2 .taken) (z .before .size-in .ensures) (z .narrow .ensures) count (y .copy-front .ensures) (c .before .copy-front2 .ensures) (c .done .ensures)
 
--- src/lib.rt:294:9
--- src/lib.rt:295:9
--- src/lib.rt:296:9
--- src/lib.rt:296:9
 returns-2 : tie.Need-returns-2
-returns-2 c = ?
+unfolding judgedTree
+returns-2 c =
+    let k = c .before in
+    let j = k .before .before in
+    let t = j .before .before in
+    let u = t .before in
+    let v = u .before .before in
+    offers-bad _ _ _ _ _ _ _ (v .before .before .objects-number .ensures) (v .before .if1 .taken) (v .judge .ensures) (u .before .offered-number .ensures) (u .lower .ensures) _ _ _ _ _ (j .before .clear-arg .given .0 .1) (k .before .clear-arg2 .given .0 .1) (j .clear .ensures) (k .clear2 .ensures) (t .if2 .left) (c .refused .ensures)
 
--- src/lib.rt:298:5
--- src/lib.rt:299:5
--- src/lib.rt:300:20
--- src/lib.rt:300:5
--- src/lib.rt:276:1
 returns-3 : tie.Need-returns-3
-returns-3 c = ?
+returns-3 c =
+    let k = c .before .before in
+    let j = k .before .before in
+    let i = j .before .before in
+    offers-not _ _ _ _ _ _ _ _ _ _ (i .before .objects-number .ensures) (i .if1 .left) (c .before .lower2 .ensures) (j .before .clear-arg3 .given .0 .1) (k .before .clear-arg4 .given .0 .1) (j .clear3 .ensures) (k .clear4 .ensures) (c .refused2 .ensures)
 
 pub offer-spec : {M : Type 1} → statement M
 offer-spec =
