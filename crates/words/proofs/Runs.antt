@@ -70,6 +70,14 @@ module _ {A : Type 0} where
       let e : a + suc k ≡ suc a + k = omega arith in
       rw e (all-from P f (suc a) n (s .1) k (omega arith))
 
+  pub all-map : (P Q : A → Type 0) → ((x : A) → P x → Q x) → (xs : List A) → All P xs → All Q xs
+  all-map P Q f [] s = tt
+  all-map P Q f (x ∷ xs) s = (f x (s .0), all-map P Q f xs (s .1))
+
+  pub all-snoc : (P : A → Type 0) (xs : List A) (x : A) → All P xs → P x → All P (xs ++ (x ∷ []))
+  all-snoc P [] x s p = (p, tt)
+  all-snoc P (y ∷ xs) x s p = (s .0, all-snoc P xs x (s .1) p)
+
 -- a loop that writes words from 0 on: a turn, and the end
 pub puts-step : (b ws : List ℕ) (i : ℕ) → i < length ws → putWords b i (drop i ws) ≡ putWords (putWord b i (getD ws i 0)) (i + 1) (drop (i + 1) ws)
 unfolding putWords
