@@ -1,5 +1,5 @@
--- Rows whose words agree decode alike, and a plan's list stands where its rows do: each record reads the words of its row
--- alone, and a piece its cutters' rows. Assumes nothing.
+-- Rows whose words agree decode alike, and a plan's list stands where its rows do: each record reads the words of its
+-- row alone, and a piece its cutters' rows. Assumes nothing.
 use Prim.Native.Nat.{ℕ, _+_, _*_, _<_, _≤_}
 use native.Mathlib.Nat.{add-zero}
 use native.Mathlib.Omega.{arith}
@@ -36,7 +36,8 @@ module _ {n : ℕ} {v w : List ℕ} {f g : List Float} {a b : ℕ} (s : Alike n 
   prim-same : (k : ℕ) → k + 8 < n → primOf v f (16 * a + k) ≡ primOf w g (16 * b + k)
   prim-same k h =
       let at : (r j : ℕ) → 16 * r + k + j ≡ 16 * r + (k + j) = λ r j. omega arith in
-      rw (at a 1, at a 2, at a 3, at a 4, at a 5, at a 6, at a 7, at a 8, at b 1, at b 2, at b 3, at b 4, at b 5, at b 6, at b 7, at b 8)
+      rw (at a 1, at a 2, at a 3, at a 4, at a 5, at a 6, at a 7, at a 8)
+      (rw (at b 1, at b 2, at b 3, at b 4, at b 5, at b 6, at b 7, at b 8)
       (rw (
         s .word k (omega arith),
         s .float (k + 1) (omega arith),
@@ -47,7 +48,7 @@ module _ {n : ℕ} {v w : List ℕ} {f g : List Float} {a b : ℕ} (s : Alike n 
         s .float (k + 6) (omega arith),
         s .float (k + 7) (omega arith),
         s .float (k + 8) (omega arith),
-      ))
+      )))
 
   pub material-same : 5 ≤ n → materialAt f a ≡ materialAt g b
   unfolding materialAt

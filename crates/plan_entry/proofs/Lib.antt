@@ -1,1 +1,5 @@
 pub mod Lists
+pub mod Given
+pub mod Accepts
+pub mod Sound
+pub mod Entered
