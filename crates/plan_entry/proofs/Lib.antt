@@ -3,3 +3,4 @@ pub mod Given
 pub mod Accepts
 pub mod Sound
 pub mod Entered
+pub mod Made
