@@ -3,10 +3,9 @@
 use Prim.Native.Nat.{ℕ, _+_, _*_, _<_, _≤_}
 use native.Mathlib.Nat.{add-zero}
 use native.Mathlib.Omega.{arith}
-use mathlib.Core.Path.{_≡_, refl, sym, _∙_, ap}
+use mathlib.Core.Path.{_≡_, sym, _∙_, ap}
 use mathlib.Core.Logic.{⊎-elim}
 use mathlib.Core.List.{List}
-use lib.ListN.{getD}
 use lib.Ieee.{Float, binary32, ofBits, nan}
 use Rattle.words.specs.Lists.{listFrom}
 use Rattle.words.specs.Words.{floatAt}
@@ -72,7 +71,7 @@ module _ {n : ℕ} {v w : List ℕ} {f g : List Float} {a b : ℕ} (s : Alike n 
       = rw (prim-same 0 (omega arith), s .word 0 (omega arith)) in
       ap (cutterFrom v f) (sym (add-zero (16 * a))) ∙ here ∙ ap (cutterFrom w g) (add-zero (16 * b))
 
-  pub head-same : 13 ≤ n → headAt v f a ≡ headAt w g b
+  head-same : 13 ≤ n → headAt v f a ≡ headAt w g b
   unfolding headAt
   head-same h =
       let first : wordOf v (16 * a) ≡ wordOf w (16 * b)
@@ -123,7 +122,7 @@ moved n v w a b l ha hb h =
     }
 
 -- ---- a piece, and the lists of a plan
-pub piece-same
+piece-same
     : (v w : List ℕ) (f g : List Float) (r : ℕ)
     → headAt v f r ≡ headAt w g r
     → ((k : ℕ) → k < headAt w g r .cutters

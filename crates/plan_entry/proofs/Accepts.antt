@@ -1,7 +1,7 @@
 -- What an entry that gets 0 was given: a plan in order, room for the record, and a record in order. Test by test.
 -- Assumes nothing.
 use Prim.Native.Nat.{ℕ, _+_, _*_, _<_, _≤_}
-use mathlib.Core.Path.{_≡_, refl}
+use mathlib.Core.Path.{_≡_}
 use mathlib.Core.Bool.{Bool, true, _&&_, and-eq-true-iff}
 use mathlib.Core.List.{List}
 use lib.Dec.{leb, ltb}

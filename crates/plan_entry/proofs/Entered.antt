@@ -4,7 +4,7 @@ use Prim.Native.Nat.{ℕ, suc, _+_, _-_, _*_, _<_, _≤_}
 use mathlib.Core.Path.{_≡_, refl, sym, _∙_, ap}
 use mathlib.Core.Logic.{_⊎_, ⊎-elim, inl, inr}
 use mathlib.Core.Bool.{Bool, true, false, true≢false, false≢true}
-use mathlib.Core.List.{List, [], _∷_, _++_}
+use mathlib.Core.List.{List}
 use native.Mathlib.Numerals.{add-one}
 use native.Mathlib.Omega.{arith}
 use lib.ListN.{length, getD, set}
@@ -30,20 +30,20 @@ use Rattle.plan_entry.specs.Entry.{putRow, putCutters, newPlace, oneMore
 use Rattle.plan_entry.specs.After.{givenPiece, withOne}
 use Rattle.plan_entry.proofs.Lists.{length-row, row-here, row-other, length-cutters, cutters-other, cutters-here}
 use Rattle.plan_entry.proofs.Given.{new-cutter, new-piece, new-record}
-use Rattle.plan_entry.proofs.Accepts.{Accepted, accepted, Taken, taken}
+use Rattle.plan_entry.proofs.Accepts.{Accepted, accepted, taken}
 
 one-more : (n : ℕ) → n < 256 → oneMore n ≡ suc n
 unfolding oneMore
 one-more n h = rw (lt-ltb n 256 h, add-one)
 
 -- ---- what the plan of w says of its rows
-pub record Few (w : List ℕ) : Type 0 where
-  pub materials : countOf materials w ≤ 64
-  pub planes : countOf planes w ≤ 16
-  pub lights : countOf lights w ≤ 16
-  pub objects : countOf objects w ≤ 256
+record Few (w : List ℕ) : Type 0 where
+  materials : countOf materials w ≤ 64
+  planes : countOf planes w ≤ 16
+  lights : countOf lights w ≤ 16
+  objects : countOf objects w ≤ 256
 
-pub few : (w : List ℕ) (f : List Float) → CountsOk (planOf w f) → Few w
+few : (w : List ℕ) (f : List Float) → CountsOk (planOf w f) → Few w
 unfolding planOf piecesFrom
 few w f c =
     record {
@@ -55,7 +55,7 @@ few w f c =
 
 module _ (w : List ℕ) (s : SoundSolids (planIn w)) where
   -- the cutters of plane j lie from what the planes leave on
-  pub plane-place
+  plane-place
       : (j : ℕ)
       → j < countOf planes w
       → (1024 ≤ headAt w (seen w) (65 + j) .place + cuttersOf (planIn w .planes))
@@ -71,7 +71,7 @@ module _ (w : List ℕ) (s : SoundSolids (planIn w)) where
       (planes-reach 0 used (planIn w .planes) (s .planes .places) (omega arith))
 
   -- the cutters of object j lie below what the objects use
-  pub object-place
+  object-place
       : (j : ℕ)
       → j < countOf objects w
       → headAt w (seen w) (113 + j) .place + headAt w (seen w) (113 + j) .cutters ≤ cuttersOf (planIn w .objects)
@@ -86,10 +86,10 @@ module _ (w : List ℕ) (s : SoundSolids (planIn w)) where
       (objects-reach 0 used (planIn w .objects) (s .objects .places) (omega arith))
 
 -- ---- a table whose count c was set, and whose rows stay but for some
-pub record Stays (w v : List ℕ) (c x : ℕ) (Row : ℕ → Type 0) : Type 0 where
-  pub count : wordOf v c ≡ x
-  pub counts : (i : ℕ) → i < 16 → (i ≡ c → ⊥) → wordOf v i ≡ wordOf w i
-  pub row : (r : ℕ) → 1 ≤ r → Row r → Kept v w r
+record Stays (w v : List ℕ) (c x : ℕ) (Row : ℕ → Type 0) : Type 0 where
+  count : wordOf v c ≡ x
+  counts : (i : ℕ) → i < 16 → (i ≡ c → ⊥) → wordOf v i ≡ wordOf w i
+  row : (r : ℕ) → 1 ≤ r → Row r → Kept v w r
 
 abbrev Beside : ℕ → ℕ → Type 0
 Beside row r = (r < row) ⊎ (row < r)

@@ -17,7 +17,7 @@ use Rattle.words.proofs.Runs.{from-same, getD-from}
 use Rattle.plan.specs.declared.Head.{Head}
 use Rattle.plan.specs.Sections.{argsRow}
 use Rattle.plan.specs.Records.{wordOf, floatOf, primOf, cutterAt, headAt}
-use Rattle.plan.specs.Plan.{Cuts, Piece, cutsBy, pieceAt, seen}
+use Rattle.plan.specs.Plan.{Cuts, cutsBy, pieceAt, seen}
 use Rattle.plan.proofs.Rows.{float-of, Alike, moved}
 use Rattle.plan_entry.specs.Entry.{argWord, argCuts, usedWords, usedWord, pieceWords, cutterWords, firstWord}
 use Rattle.plan_entry.specs.Entry.{recordWords}

@@ -1,27 +1,26 @@
 -- A plan made by entries is sound, lights too: the empty one is, and each accepted entry leaves it so. By induction on the
 -- entries. Assumes nothing.
-use Prim.Native.Nat.{ℕ, _+_, _*_, _<_, _≤_}
+use Prim.Native.Nat.{ℕ, _+_, _*_, _<_}
 use mathlib.Core.Path.{_≡_, refl, sym, _∙_, ap, subst}
 use mathlib.Core.Bool.{Bool, true, false}
 use mathlib.Core.List.{List}
-use native.Mathlib.Nat.{add-comm}
 use native.Mathlib.Omega.{arith}
-use lib.ListN.{length, getD, set, take, replicate, length-replicate, length-set, getD-replicate}
+use lib.ListN.{length, getD, replicate, length-replicate, length-set, getD-replicate}
 use lib.Seq.{getD-take}
 use lib.Ieee.{Float}
 use Rattle.words.specs.Lists.{listFrom}
 use Rattle.words.proofs.Runs.{length-from}
-use Rattle.plan.specs.Sections.{materials, planes, lights, objects, argsRow, planWords}
+use Rattle.plan.specs.Sections.{materials, planes, lights, objects, argsRow}
 use Rattle.plan.specs.Records.{wordOf, materialAt, lightAt, lightIn, headAt}
-use Rattle.plan.specs.Plan.{Plan, pieceAt, piecesFrom, countOf, planOf, seen, planIn}
+use Rattle.plan.specs.Plan.{pieceAt, piecesFrom, countOf, planOf, seen, planIn}
 use Rattle.plan_test.specs.Numbers.{materialNumber, lightNumber}
 use Rattle.plan_test.specs.Tests.{cuttersOf, solidsOf, litNumber}
-use Rattle.plan_test.specs.Exact.{HeadOk, PieceOk, PlaceIs, SoundSolids, SoundLit}
+use Rattle.plan_test.specs.Exact.{PieceOk, PlaceIs, SoundLit}
 use Rattle.plan_test.proofs.Numbers.{light-exact}
 use Rattle.plan_test.proofs.Exact.{solids-exact, lit-exact}
 use Rattle.plan_entry.specs.Entry.{argCuts, sectionOf, recordWords, pieceWords, putRow, putCutters, oneMore}
 use Rattle.plan_entry.specs.Entry.{withPiece, withMaterialWords, withLightWords}
-use Rattle.plan_entry.specs.After.{placed, givenPiece, withOne, Made, empty, relent, piece, material, light}
+use Rattle.plan_entry.specs.After.{givenPiece, Made, empty, relent, piece, material, light}
 use Rattle.plan_entry.proofs.Lists.{length-row, length-cutters}
 use Rattle.plan_entry.proofs.Accepts.{Accepted, accepted, taken}
 use Rattle.plan_entry.proofs.Sound.{listOf, Fits, piece-sound, material-sound, light-sound}

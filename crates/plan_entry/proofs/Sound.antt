@@ -3,7 +3,6 @@
 use Prim.Native.Nat.{ℕ, _+_, _<_, _≤_}
 use native.Mathlib.Nat.{zero-add}
 use native.Mathlib.Omega.{arith}
-use mathlib.Core.Path.{_≡_}
 use mathlib.Core.Bool.{Bool, true, false}
 use mathlib.Core.List.{List, [], _∷_, _++_}
 use lib.ListN.{length, length-append}
@@ -12,7 +11,7 @@ use Rattle.plan.specs.declared.Material.{Material}
 use Rattle.plan.specs.declared.QuadLight.{QuadLight}
 use Rattle.plan.specs.Plan.{Piece, Plan, withMaterial, withLight}
 use Rattle.plan_test.specs.Tests.{cuttersOf}
-use Rattle.plan_test.specs.Exact.{HeadOk, PieceOk, PlaceIs, PiecesOk, CountsOk, SoundSolids, LightOk, SoundLit}
+use Rattle.plan_test.specs.Exact.{PieceOk, PlaceIs, PiecesOk, LightOk, SoundLit}
 use Rattle.plan_test.proofs.Lists.{cutters-snoc}
 use Rattle.plan_test.proofs.Apart.{places-snoc}
 use Rattle.plan_entry.specs.Entry.{sectionOf}

@@ -3,7 +3,7 @@
 use Prim.Native.Nat.{ℕ, _+_, _≤_}
 use native.Mathlib.Nat.{add-zero, add-assoc}
 use native.Mathlib.Omega.{arith}
-use mathlib.Core.Path.{_≡_, sym}
+use mathlib.Core.Path.{_≡_}
 use mathlib.Core.Bool.{Bool, true, false}
 use mathlib.Core.List.{List, [], _∷_, _++_}
 use Rattle.words.specs.Lists.{All}
@@ -11,13 +11,13 @@ use Rattle.plan.specs.Plan.{Piece, Plan}
 use Rattle.plan_test.specs.Tests.{cuttersOf}
 use Rattle.plan_test.specs.Exact.{PlaceIs, PlacesAre, SoundObjects, SoundSolids}
 
-pub cutters-append : (xs ys : List Piece) → cuttersOf (xs ++ ys) ≡ cuttersOf xs + cuttersOf ys
+cutters-append : (xs ys : List Piece) → cuttersOf (xs ++ ys) ≡ cuttersOf xs + cuttersOf ys
 unfolding cuttersOf
 cutters-append [] ys = omega arith
 cutters-append (x ∷ xs) ys = rw (cutters-append xs ys) (omega arith)
 
 -- the pieces after some have the places after theirs
-pub places-after
+places-after
     : (among : Bool) (before : ℕ) (xs ys : List Piece)
     → PlacesAre among before (xs ++ ys)
     → PlacesAre among (before + cuttersOf xs) ys

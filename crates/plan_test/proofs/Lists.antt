@@ -4,10 +4,9 @@ use Prim.Native.Nat.{ℕ, _+_, _*_, _≤_, _<_}
 use native.Mathlib.Nat.{add-zero, zero-add, add-assoc}
 use native.Mathlib.Numerals.{add-one}
 use native.Mathlib.Omega.{arith}
-use mathlib.Core.Path.{_≡_, refl, sym, _∙_, ap}
+use mathlib.Core.Path.{_≡_, refl, sym, _∙_}
 use mathlib.Core.Bool.{Bool, true, false, cond, _&&_, and-true, and-assoc}
 use mathlib.Core.List.{List, [], _∷_, _++_}
-use lib.ListN.{length}
 use lib.Dec.{leb}
 use lib.Ieee.{Float}
 use mir.Syntax.{w64}
@@ -40,7 +39,7 @@ counts-words w f =
       length-from (pieceAt w f) (objects .first) (countOf objects w),
     )
 
-pub counts-any : (w : List ℕ) (f g : List Float) → countsOk (planOf w f) ≡ countsOk (planOf w g)
+counts-any : (w : List ℕ) (f g : List Float) → countsOk (planOf w f) ≡ countsOk (planOf w g)
 counts-any w f g = counts-words w f ∙ sym (counts-words w g)
 
 -- ---- one piece more at the end of a list
@@ -49,7 +48,7 @@ unfolding cuttersOf
 cutters-snoc [] o = omega arith
 cutters-snoc (x ∷ os) o = rw (cutters-snoc os o) (omega arith)
 
-pub placed-snoc
+placed-snoc
     : (among : Bool) (before : ℕ) (os : List Piece) (o : Piece)
     → placesOk among before (os ++ (o ∷ []))
     ≡ (placesOk among before os && placeOk among (before + cuttersOf os) (o .head))
