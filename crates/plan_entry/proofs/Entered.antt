@@ -24,9 +24,10 @@ use Rattle.plan_test.specs.Tests.{cuttersOf, solidsOf}
 use Rattle.plan_test.specs.Exact.{CutterOk, CountsOk, SoundSolids}
 use Rattle.plan_test.proofs.Apart.{objects-reach, planes-reach}
 use Rattle.plan_test.proofs.Exact.{counts-exact, solids-exact, solids-used}
-use Rattle.plan_entry.specs.Entry.{argWord, argCuts, pieceNumber, recordNumber, pieceWords, cutterWords, firstWord}
-use Rattle.plan_entry.specs.Entry.{recordWords}
-use Rattle.plan_entry.specs.Entry.{putRow, putCutters, newPlace, oneMore, withPiece, withMaterialWords, withLightWords}
+use Rattle.plan_entry.specs.Entry.{argWord, argCuts, pieceNumber, recordNumber, pieceWords, cutterWords}
+use Rattle.plan_entry.specs.Entry.{firstWord, recordWords}
+use Rattle.plan_entry.specs.Entry.{putRow, putCutters, newPlace, oneMore, withPiece, withMaterialWords}
+use Rattle.plan_entry.specs.Entry.{withLightWords}
 use Rattle.plan_entry.specs.After.{givenPiece, withOne}
 use Rattle.plan_entry.proofs.Lists.{length-row, row-here, row-other, length-cutters, cutters-other, cutters-here}
 use Rattle.plan_entry.proofs.Given.{new-cutter, new-piece, new-record}
@@ -324,8 +325,10 @@ piece-entered before true w bytes len e =
     let at : ℕ = placeFor true w in
     let below = d .below in
     let above = d .above in
-    let t = written w 1 (oneMore m) (65 + m) at (argCuts w) len (omega arith) (omega arith) (omega arith) (omega arith) in
-    plane-entered w _ 1 (oneMore m) (65 + m) at true s a (omega arith) (omega arith) below above t refl refl (omega arith)
+    let x : ℕ = oneMore m in
+    let row : ℕ = 65 + m in
+    let t = written w 1 x row at (argCuts w) len (omega arith) (omega arith) (omega arith) (omega arith) in
+    plane-entered w _ 1 x row at true s a (omega arith) (omega arith) below above t refl refl (omega arith)
     (one-more m (omega arith))
 piece-entered before false w bytes len e =
     let a = accepted before false w bytes e in
@@ -336,8 +339,10 @@ piece-entered before false w bytes len e =
     let at : ℕ = placeFor false w in
     let below = d .below in
     let above = d .above in
-    let t = written w 3 (oneMore m) (113 + m) at (argCuts w) len (omega arith) (omega arith) (omega arith) (omega arith) in
-    object-entered w _ 3 (oneMore m) (113 + m) at false s a (omega arith) (omega arith) below above t refl refl
+    let x : ℕ = oneMore m in
+    let row : ℕ = 113 + m in
+    let t = written w 3 x row at (argCuts w) len (omega arith) (omega arith) (omega arith) (omega arith) in
+    object-entered w _ 3 x row at false s a (omega arith) (omega arith) below above t refl refl
     (one-more m (omega arith))
 
 -- ---- a material, or a light: planes, objects and cutters stand elsewhere

@@ -1,5 +1,5 @@
--- A row written from the arguments decodes to what the arguments do, though words that a kind does not use are written 0.
--- Kind by kind. Assumes nothing.
+-- A row written from the arguments decodes to what the arguments do, though words that a kind does not use are written
+-- 0. Kind by kind. Assumes nothing.
 use Prim.Native.Nat.{ℕ, zero, suc, _+_, _*_, _<_, _≤_}
 use mathlib.Core.Path.{_≡_, refl, sym, _∙_, ap}
 use mathlib.Core.Bool.{Bool, true, false, cond, _||_}

@@ -93,7 +93,8 @@ module _ (w : List ℕ) (place : ℕ) where
   unfolding putCutters
   cutters-after zero k h = refl
   cutters-after (suc n) k h =
-      row-after (putCutters w place n) (369 + place + n) (cutterWords w (1394 + n)) k (omega arith) h ∙ cutters-after n k h
+      row-after (putCutters w place n) (369 + place + n) (cutterWords w (1394 + n)) k (omega arith) h
+      ∙ cutters-after n k h
 
   pub length-cutters : (n : ℕ) → length (putCutters w place n) ≡ length w
   unfolding putCutters

@@ -1,5 +1,5 @@
--- A plan made by entries is sound, lights too: the empty one is, and each accepted entry leaves it so. By induction on the
--- entries. Assumes nothing.
+-- A plan made by entries is sound, lights too: the empty one is, and each accepted entry leaves it so. By induction on
+-- the entries. Assumes nothing.
 use Prim.Native.Nat.{ℕ, _+_, _*_, _<_}
 use mathlib.Core.Path.{_≡_, refl, sym, _∙_, ap, subst}
 use mathlib.Core.Bool.{Bool, true, false}
@@ -24,8 +24,8 @@ use Rattle.plan_entry.specs.After.{givenPiece, Made, empty, relent, piec
 use Rattle.plan_entry.proofs.Lists.{length-row, length-cutters}
 use Rattle.plan_entry.proofs.Accepts.{Accepted, accepted, taken}
 use Rattle.plan_entry.proofs.Sound.{listOf, Fits, piece-sound, material-sound, light-sound}
-use Rattle.plan_entry.proofs.Entered.{placeFor, Placed, placed-for, piece-entered, material-entered, light-entered}
-use Rattle.plan_entry.proofs.Entered.{plan-relent}
+use Rattle.plan_entry.proofs.Entered.{placeFor, Placed, placed-for, piece-entered, material-entered}
+use Rattle.plan_entry.proofs.Entered.{light-entered, plan-relent}
 
 -- ---- no entry changes the length
 length-piece : (among : Bool) (w : List ℕ) (place : ℕ) → length (withPiece among w place) ≡ length w
@@ -66,7 +66,13 @@ none-sound w f m p l o =
     (record {
       solids =
           record {
-            counts = record { materials = omega arith; planes = omega arith; lights = omega arith; objects = omega arith };
+            counts =
+                record {
+                  materials = omega arith;
+                  planes = omega arith;
+                  lights = omega arith;
+                  objects = omega arith;
+                };
             planes = record { each = tt; places = tt };
             objects = record { each = tt; places = tt };
             room = omega arith;
@@ -106,7 +112,10 @@ given-room : (w : List ℕ) (place : ℕ) → givenPiece w place .head .cutters 
 unfolding givenPiece headAt
 given-room w place = refl
 
-given-ok : (among : Bool) (w : List ℕ) (place : ℕ) → Accepted among w → PieceOk among (countOf materials w) (givenPiece w place)
+given-ok
+    : (among : Bool) (w : List ℕ) (place : ℕ)
+    → Accepted among w
+    → PieceOk among (countOf materials w) (givenPiece w place)
 unfolding givenPiece headAt
 given-ok among w place a =
     let own = a .own in
@@ -116,8 +125,8 @@ given-ok among w place a =
       cuts = a .cuts;
     }
 
-fits : (among : Bool) (w : List ℕ) → SoundLit (planIn w) → Accepted among w → Fits among (planIn w) (givenPiece w (placeFor among w))
-fits among w s a =
+fits : (among : Bool) (w : List ℕ) → Accepted among w → Fits among (planIn w) (givenPiece w (placeFor among w))
+fits among w a =
     let d = placed-for among w a in
     let o = given-room w (placeFor among w) in
     let above = d .above in
@@ -158,7 +167,7 @@ good (piece among bytes w m e) =
       size = length-piece among w place ∙ g .size;
       sound =
           subst SoundLit (sym (piece-entered 0 among w bytes (g .size) e))
-          (piece-sound among (planIn w) (givenPiece w place) (g .sound) (fits among w (g .sound) a));
+          (piece-sound among (planIn w) (givenPiece w place) (g .sound) (fits among w a));
     }
 good (material w m e) =
     let g = good m in

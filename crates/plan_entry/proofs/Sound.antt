@@ -72,7 +72,8 @@ piece-sound false p o s f =
                   objects = simp length-append (omega (arith, f .count));
                 };
             planes = s .solids .planes;
-            objects = pieces-more false (length (p .materials)) (p .objects) o (s .solids .objects) (f .piece) (f .place);
+            objects =
+                pieces-more false (length (p .materials)) (p .objects) o (s .solids .objects) (f .piece) (f .place);
             room = rw (cutters-snoc (p .objects) o) (omega (arith, f .room));
           };
       lights = s .lights;
@@ -80,7 +81,8 @@ piece-sound false p o s f =
 
 -- a piece's material is present where there are more
 more-materials : (among : Bool) (m n : ℕ) → m ≤ n → (os : List Piece) → PiecesOk among m os → PiecesOk among n os
-more-materials among m n h os s = record { each = all-map (PieceOk among m) (PieceOk among n) one os (s .each); places = s .places }
+more-materials among m n h os s =
+    record { each = all-map (PieceOk among m) (PieceOk among n) one os (s .each); places = s .places }
   where
     one : (o : Piece) → PieceOk among m o → PieceOk among n o
     one o k =
@@ -115,7 +117,12 @@ material-sound p m s h =
       lights = s .lights;
     }
 
-pub light-sound : (p : Plan) (l : QuadLight) → SoundLit p → length (p .lights) < 16 → LightOk l → SoundLit (withLight p l)
+pub light-sound
+    : (p : Plan) (l : QuadLight)
+    → SoundLit p
+    → length (p .lights) < 16
+    → LightOk l
+    → SoundLit (withLight p l)
 light-sound p l s h k =
     let c = s .solids .counts in
     record {

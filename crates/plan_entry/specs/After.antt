@@ -1,5 +1,5 @@
--- What the entries make of the plan as a value, and the plans that they make. Definitions only; the theorems are those of
--- proofs/Entered.antt and Made.antt.
+-- What the entries make of the plan as a value, and the plans that they make. Definitions only; the theorems are those
+-- of proofs/Entered.antt and Made.antt.
 use Prim.Native.Nat.{ℕ, _+_}
 use mathlib.Core.Path.{_≡_}
 use mathlib.Core.Bool.{Bool, true, false}

@@ -32,8 +32,8 @@ argWord w k = wordOf w (16 * argsRow + k)
 abbrev pub argCuts : List ℕ → ℕ
 argCuts w = argWord w 2
 
--- "Where the number of cutters is above 8, or `args` end before the last cutter, the piece gets 2 and its cutters' words
--- are not judged; its own words are."
+-- "Where the number of cutters is above 8, or `args` end before the last cutter, the piece gets 2 and its cutters'
+-- words are not judged; its own words are."
 unfoldable pub argCutsNumber : List ℕ → List Float → ℕ → ℕ → ℕ
 argCutsNumber w f bytes n =
     cond (leb n cutsMost && leb (64 + 64 * n) bytes) (cutsNumber (cutsBy w f (argsRow + 1) n)) noRoom

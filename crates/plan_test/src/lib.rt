@@ -213,7 +213,9 @@ fn pieces_cuts(ws: &Words, fs: &Floats, r: u32, n: u32) -> u32
 
 // The same, where every place is right.
 fn placed_cuts(ws: &Words, fs: &Floats, placed: bool, r: u32, n: u32) -> u32
-    ensures { λ m. ⌜ m ≡ cond placed (lowestOf pieceCuts (piecesFrom (now (ws .entry)) (now (fs .entry)) r n)) noRoom ⌝ }
+    ensures { λ m. ⌜
+        m ≡ cond placed (lowestOf pieceCuts (piecesFrom (now (ws .entry)) (now (fs .entry)) r n)) noRoom
+        ⌝ }
 {
     if placed {
         return pieces_cuts(ws, fs, r, n);
