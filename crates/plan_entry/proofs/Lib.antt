@@ -1,1 +1,6 @@
 pub mod Lists
+pub mod Given
+pub mod Accepts
+pub mod Sound
+pub mod Entered
+pub mod Made

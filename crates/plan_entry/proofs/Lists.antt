@@ -1,25 +1,26 @@
 -- What a written row is, what loops that write rows need, and what an entry's two answers amount to: no row of the plan
 -- is one of the arguments', so that these are read as they were. Assumes nothing.
 use Prim.Native.Nat.{ℕ, zero, suc, _+_, _*_, _<_, _≤_}
-use mathlib.Core.Path.{_≡_, refl, _∙_}
+use mathlib.Core.Path.{_≡_, refl, sym, _∙_, subst}
 use mathlib.Core.Logic.{_⊎_, ⊎-elim, inl, inr}
 use mathlib.Core.Bool.{Bool, cond}
-use mathlib.Core.List.{List, [], _∷_}
+use mathlib.Core.List.{List}
 use native.Mathlib.Numerals.{add-one}
 use native.Mathlib.Omega.{arith}
+use native.Mathlib.Decide.{decLe}
 use lib.ListN.{length, getD}
-use lib.Seq.{sets}
+use lib.Seq.{sets, length-sets}
 use lib.Dec.{eqb}
 use lib.Ieee.{Float}
 use borrow.Author.Tests.{lt-ltb, le-ltb}
 use Rattle.words.proofs.Laws.{less-or}
-use Rattle.words.proofs.Stores.{getD-sets-out}
+use Rattle.words.proofs.Stores.{getD-sets-out, getD-sets-in}
 use Rattle.plan.specs.Plan.{countOf, planOf}
 use Rattle.plan_test.specs.declared.Solids.{Solids}
 use Rattle.plan_test.specs.Tests.{solidsOf}
 use Rattle.plan_entry.specs.declared.Added.{Added}
-use Rattle.plan_entry.specs.Entry.{addedOf, sectionOf, pieceNumber, argCuts, usedWord, cutterWords, putRow, putCutters}
-use Rattle.plan_entry.specs.Entry.{newPlace, withPiece, Enters, AddsPiece}
+use Rattle.plan_entry.specs.Entry.{addedOf, sectionOf, pieceNumber, argCuts, usedWord, cutterWords, putRow}
+use Rattle.plan_entry.specs.Entry.{putCutters, newPlace, withPiece, Enters, AddsPiece}
 
 -- ---- a row
 pub row-in : (w : List ℕ) (r : ℕ) (words : List ℕ) → r < 1393 → putRow w r words ≡ sets w (16 * r) words
@@ -30,7 +31,23 @@ pub row-out : (w : List ℕ) (r : ℕ) (words : List ℕ) → 1393 ≤ r → put
 unfolding putRow
 row-out w r words h = rw (le-ltb r 1393 h)
 
--- another row's words stay
+pub length-row : (w : List ℕ) (r : ℕ) (words : List ℕ) → length (putRow w r words) ≡ length w
+length-row w r words =
+    ⊎-elim
+    (λ p. rw (row-in w r words p) (length-sets w (16 * r) words))
+    (λ p. rw (row-out w r words p))
+    (less-or r 1393)
+
+-- a written row has its words, and the words outside it stay
+pub row-here
+    : (w : List ℕ) (r : ℕ) (words : List ℕ) (k : ℕ)
+    → length w ≡ 27296
+    → r < 1393
+    → length words ≡ 16
+    → k < 16
+    → getD (putRow w r words) (16 * r + k) 0 ≡ getD words k 0
+row-here w r words k len h l p = rw (row-in w r words h) (getD-sets-in w (16 * r) words k (omega arith) (omega arith))
+
 pub row-other
     : (w : List ℕ) (r : ℕ) (words : List ℕ) (k : ℕ)
     → length words ≤ 16
@@ -43,12 +60,13 @@ row-other w r words k l h =
     (less-or r 1393)
 
 -- the words after the plan stay
-pub row-after : (w : List ℕ) (r : ℕ) (words : List ℕ) (k : ℕ) → length words ≤ 16 → 22288 ≤ k → getD (putRow w r words) k 0 ≡ getD w k 0
+row-after
+    : (w : List ℕ) (r : ℕ) (words : List ℕ) (k : ℕ)
+    → length words ≤ 16
+    → 22288 ≤ k
+    → getD (putRow w r words) k 0 ≡ getD w k 0
 row-after w r words k l h =
-    ⊎-elim
-    (λ p. row-other w r words k l (inr (omega arith)))
-    (λ p. rw (row-out w r words p))
-    (less-or r 1393)
+    ⊎-elim (λ p. row-other w r words k l (inr (omega arith))) (λ p. rw (row-out w r words p)) (less-or r 1393)
 
 -- ---- cutters
 used-same
@@ -71,11 +89,54 @@ cutter-same v w r g h =
     rw (h (16 * r) (omega arith), same 0, same 1, same 2, same 3, same 4, same 5, same 6, same 7)
 
 module _ (w : List ℕ) (place : ℕ) where
-  pub cutters-after : (n k : ℕ) → 22288 ≤ k → getD (putCutters w place n) k 0 ≡ getD w k 0
+  cutters-after : (n k : ℕ) → 22288 ≤ k → getD (putCutters w place n) k 0 ≡ getD w k 0
   unfolding putCutters
   cutters-after zero k h = refl
   cutters-after (suc n) k h =
-      row-after (putCutters w place n) (369 + place + n) (cutterWords w (1394 + n)) k (omega arith) h ∙ cutters-after n k h
+      row-after (putCutters w place n) (369 + place + n) (cutterWords w (1394 + n)) k (omega arith) h
+      ∙ cutters-after n k h
+
+  pub length-cutters : (n : ℕ) → length (putCutters w place n) ≡ length w
+  unfolding putCutters
+  length-cutters zero = refl
+  length-cutters (suc n) =
+      length-row (putCutters w place n) (369 + place + n) (cutterWords w (1394 + n)) ∙ length-cutters n
+
+  pub cutters-other
+      : (n k : ℕ)
+      → (k < 16 * (369 + place)) ⊎ (16 * (369 + place + n) ≤ k)
+      → getD (putCutters w place n) k 0 ≡ getD w k 0
+  unfolding putCutters
+  cutters-other zero k h = refl
+  cutters-other (suc n) k h =
+      row-other (putCutters w place n) (369 + place + n) (cutterWords w (1394 + n)) k (omega arith)
+      (⊎-elim (λ p. inl (omega arith)) (λ p. inr (omega arith)) h)
+      ∙ cutters-other n k (⊎-elim (λ p. inl p) (λ p. inr (omega arith)) h)
+
+  pub cutters-here
+      : (n j k : ℕ)
+      → length w ≡ 27296
+      → place + n ≤ 1024
+      → j < n
+      → k < 16
+      → getD (putCutters w place n) (16 * (369 + place + j) + k) 0 ≡ getD (cutterWords w (1394 + j)) k 0
+  unfolding putCutters
+  cutters-here zero j k len fit h p = absurd (omega arith)
+  cutters-here (suc n) j k len fit h p =
+      let v : List ℕ = putCutters w place n in
+      let row : ℕ = 369 + place + n in
+      elim (decLe n j) [
+        | yes g ↦
+            let e : j ≡ n = omega arith in
+            let words : List ℕ = cutterWords w (1394 + n) in
+            subst
+            (λ (i : ℕ). getD (putRow v row words) (16 * (369 + place + i) + k) 0 ≡ getD (cutterWords w (1394 + i)) k 0)
+            (sym e)
+            (row-here v row words k (length-cutters n ∙ len) (omega arith) refl p)
+        | no g ↦
+            row-other v row (cutterWords w (1394 + n)) (16 * (369 + place + j) + k) (omega arith) (inl (omega arith))
+            ∙ cutters-here n j k len (omega arith) (omega arith) p
+      ]
 
   pub put-none : w ≡ putCutters w place 0
   unfolding putCutters
@@ -89,12 +150,14 @@ module _ (w : List ℕ) (place : ℕ) where
   unfolding putCutters
   put-more j =
       let v : List ℕ = putCutters w place j in
-      let e : cutterWords v (1394 + j) ≡ cutterWords w (1394 + j) = cutter-same v w (1394 + j) (omega arith) (cutters-after j) in
+      let e : cutterWords v (1394 + j) ≡ cutterWords w (1394 + j)
+      = cutter-same v w (1394 + j) (omega arith) (cutters-after j) in
       rw (add-one j, e)
 
 -- ---- what an entry answers and leaves, from what its calls gave
 pub adds-piece
-    : (before : ℕ) (among : Bool) {w : List ℕ} (f : List Float) (bytes : ℕ) {s : Solids} {no n place : ℕ} {r : Added} {w′ : List ℕ}
+    : (before : ℕ) (among : Bool) {w : List ℕ} (f : List Float) (bytes : ℕ) {s : Solids} {no n place : ℕ} {r : Added}
+    {w′ : List ℕ}
     → s ≡ solidsOf (planOf w f)
     → no ≡ pieceNumber before among w f s bytes
     → n ≡ countOf (sectionOf among) w

@@ -1,16 +1,18 @@
--- What the entries make of the plan as a value, and the plans that they make. Definitions only; the theorems are those of proofs/Entered.antt and Made.antt.
+-- What the entries make of the plan as a value, and the plans that they make. Definitions only; the theorems are those
+-- of proofs/Entered.antt and Made.antt.
 use Prim.Native.Nat.{ℕ, _+_}
 use mathlib.Core.Path.{_≡_}
 use mathlib.Core.Bool.{Bool, true, false}
 use mathlib.Core.List.{List}
-use lib.ListN.{length, getD, take, replicate}
+use lib.ListN.{length, take, replicate}
 use Rattle.plan.specs.declared.Head.{Head}
 use Rattle.plan.specs.Sections.{materials, lights, planWords, argsRow, tableWords}
 use Rattle.plan.specs.Records.{materialAt, lightAt, headAt}
 use Rattle.plan.specs.Plan.{Piece, Plan, cutsBy, seen, planIn, withPlane, withObject}
 use Rattle.plan_test.specs.Numbers.{materialNumber, lightNumber}
 use Rattle.plan_test.specs.Tests.{solidsOf}
-use Rattle.plan_entry.specs.Entry.{pieceNumber, recordNumber, argCuts, newPlace, withPiece, withMaterialWords, withLightWords}
+use Rattle.plan_entry.specs.Entry.{pieceNumber, recordNumber, argCuts, newPlace, withPiece, withMaterialWords}
+use Rattle.plan_entry.specs.Entry.{withLightWords}
 
 -- a head with its first cutter at a place
 abbrev pub placed : Head → ℕ → Head
@@ -34,12 +36,14 @@ abbrev pub withOne : Bool → Plan → Piece → Plan
 withOne true p o = withPlane p o
 withOne false p o = withObject p o
 
--- a plan made by entries, each with whatever arguments and tree stand after it: the empty one, and what each accepted entry leaves of such a plan
+-- a plan made by entries, each with whatever arguments and tree stand after it: the empty one, and what each accepted
+-- entry leaves of such a plan
 pub data Made : List ℕ → Type 0 where
   empty : Made (replicate tableWords 0)
   -- the words after the plan are any
   relent : (w v : List ℕ) → Made w → length v ≡ tableWords → take planWords v ≡ take planWords w → Made v
-  piece : (among : Bool) (bytes : ℕ) (w : List ℕ) → Made w → pieceNumber 0 among w (seen w) (solidsOf (planIn w)) bytes ≡ 0
+  piece : (among : Bool) (bytes : ℕ) (w : List ℕ) → Made w
+      → pieceNumber 0 among w (seen w) (solidsOf (planIn w)) bytes ≡ 0
       → Made (withPiece among w (newPlace among (solidsOf (planIn w)) (argCuts w)))
   material : (w : List ℕ) → Made w → recordNumber 0 (materialNumber (materialAt (seen w) argsRow)) materials w ≡ 0
       → Made (withMaterialWords w)

@@ -1,17 +1,16 @@
--- "A piece and its cutters enter together or nothing changes." What each entry answers, and the words that it leaves: those of a table whose arguments
--- stand after the plan, a piece in their first row and its cutters in the next. Definitions only.
+-- "A piece and its cutters enter together or nothing changes." What each entry answers, and the words that it leaves:
+-- those of a table whose arguments stand after the plan, a piece in their first row and its cutters in the next.
+-- Definitions only.
 use Prim.Native.Nat.{ℕ, zero, suc, _+_, _-_, _*_}
 use mathlib.Core.Path.{_≡_}
-use mathlib.Core.Bool.{Bool, true, false, cond, _&&_, _||_}
+use mathlib.Core.Bool.{Bool, cond, _&&_, _||_}
 use mathlib.Core.List.{List, [], _∷_}
-use lib.ListN.{set, replicate}
+use lib.ListN.{set}
 use lib.Seq.{sets}
 use lib.Dec.{leb, ltb, eqb}
 use lib.Ieee.{Float}
 use Rattle.words.specs.Lists.{listFrom}
 use Rattle.refusals.specs.Refusals.{noRoom, unless, lower}
-use Rattle.plan.specs.declared.Material.{Material}
-use Rattle.plan.specs.declared.QuadLight.{QuadLight}
 use Rattle.plan.specs.Sections.{Section, materials, planes, lights, objects, cutterRow, cutterPlaces, cutsMost, argsRow}
 use Rattle.plan.specs.Records.{wordOf, materialAt, lightAt, headAt}
 use Rattle.plan.specs.Plan.{cutsBy, countOf, planOf, planIn}
@@ -33,7 +32,8 @@ argWord w k = wordOf w (16 * argsRow + k)
 abbrev pub argCuts : List ℕ → ℕ
 argCuts w = argWord w 2
 
--- "Where the number of cutters is above 8, or `args` end before the last cutter, the piece gets 2 and its cutters' words are not judged; its own words are."
+-- "Where the number of cutters is above 8, or `args` end before the last cutter, the piece gets 2 and its cutters'
+-- words are not judged; its own words are."
 unfoldable pub argCutsNumber : List ℕ → List Float → ℕ → ℕ → ℕ
 argCutsNumber w f bytes n =
     cond (leb n cutsMost && leb (64 + 64 * n) bytes) (cutsNumber (cutsBy w f (argsRow + 1) n)) noRoom
@@ -41,7 +41,8 @@ argCutsNumber w f bytes n =
 -- a piece's arguments, of so many bytes
 unfoldable pub argsNumber : Bool → List ℕ → List Float → ℕ → ℕ
 argsNumber among w f bytes =
-    lower (ownNumber among (countOf materials w) (headAt w f argsRow)) (argCutsNumber w f bytes (headAt w f argsRow .cutters))
+    lower (ownNumber among (countOf materials w) (headAt w f argsRow))
+    (argCutsNumber w f bytes (headAt w f argsRow .cutters))
 
 -- ---- room: in the list, and among the 1,024
 -- planes, or objects
@@ -61,9 +62,11 @@ pieceNumber before among w f s bytes =
 
 -- materials and lights: the counts alone are tested
 unfoldable pub recordNumber : ℕ → ℕ → Section → List ℕ → ℕ
-recordNumber before own s w = lower (lower before own) (unless noRoom (countsOk (planIn w) && ltb (countOf s w) (s .most)))
+recordNumber before own s w =
+    lower (lower before own) (unless noRoom (countsOk (planIn w) && ltb (countOf s w) (s .most)))
 
--- ---- "Words that a kind does not use are written 0": sphere 4, round box 7, plane 4, capsule 7, torus 5, cylinder 7, cone 8
+-- ---- "Words that a kind does not use are written 0": sphere 4, round box 7, plane 4, capsule 7, torus 5, cylinder 7,
+-- cone 8
 unfoldable pub usedWords : ℕ → ℕ
 usedWords k = cond (eqb k 0 || eqb k 2) 4 (cond (eqb k 4) 5 (cond (eqb k 6) 8 7))
 
@@ -113,13 +116,19 @@ oneMore n = cond (ltb n 256) (n + 1) n
 unfoldable pub withPiece : Bool → List ℕ → ℕ → List ℕ
 withPiece among w place =
     set
-    (putRow (putCutters w place (argCuts w)) (sectionOf among .first + countOf (sectionOf among) w) (pieceWords w place))
+    (putRow
+    (putCutters w place (argCuts w))
+    (sectionOf among .first + countOf (sectionOf among) w)
+    (pieceWords w place))
     (sectionOf among .count)
     (oneMore (countOf (sectionOf among) w))
 
 unfoldable pub withMaterialWords : List ℕ → List ℕ
 withMaterialWords w =
-    set (putRow w (materials .first + countOf materials w) (recordWords w 5)) (materials .count) (oneMore (countOf materials w))
+    set
+    (putRow w (materials .first + countOf materials w) (recordWords w 5))
+    (materials .count)
+    (oneMore (countOf materials w))
 
 -- a light takes two rows
 unfoldable pub withLightWords : List ℕ → List ℕ

@@ -1,9 +1,13 @@
-// Entries: a material, a plane, an object or a light that stands in a table's arguments is tested and written into its plan, or nothing changes.
+// Entries: a material, a plane, an object or a light that stands in a table's arguments is tested and written into its
+// plan, or nothing changes.
 ghost use mathlib.Core.Path.{_≡_};
 ghost use Prim.Native.Nat.{_+_, _*_};
-ghost use Rattle.plan.specs.Sections.{Section, materials, lights};
+ghost use Rattle.plan.specs.Sections.{materials, lights};
 ghost use Rattle.plan.specs.Plan.{countOf};
-ghost use Rattle.plan_entry.specs.Entry.{addedOf, argWord, argCutsNumber, argsNumber, sectionOf, roomNumber, pieceNumber, usedWords, usedWord, pieceWords, cutterWords, firstWord, recordWords, putRow, putCutters, newPlace, oneMore, withPiece, withMaterialWords, withLightWords, AddsPiece, AddsMaterial, AddsLight};
+ghost use Rattle.plan_entry.specs.Entry.{addedOf, argWord, argCutsNumber, argsNumber, sectionOf, roomNumber};
+ghost use Rattle.plan_entry.specs.Entry.{pieceNumber, usedWords, usedWord, pieceWords, cutterWords, firstWord};
+ghost use Rattle.plan_entry.specs.Entry.{recordWords, putRow, putCutters, newPlace, oneMore, withPiece};
+ghost use Rattle.plan_entry.specs.Entry.{withMaterialWords, withLightWords, AddsPiece, AddsMaterial, AddsLight};
 ghost use Rattle.plan.specs.Plan.{planIn};
 ghost use Rattle.plan_test.specs.Tests.{countsOk};
 ghost use mathlib.Core.Bool.{_&&_};
@@ -298,8 +302,8 @@ fn with_piece(among: bool, ws: &mut Words, place: u32)
     ws[plan::COUNT_OBJECTS] = one_more(count);
 }
 
-// A plane or an object with its cutters: all enters, or nothing changes. `before` is a number that applies already, `fs` the table seen as
-// floats, `bytes` how long the arguments are.
+// A plane or an object with its cutters: all enters, or nothing changes. `before` is a number that applies already,
+// `fs` the table seen as floats, `bytes` how long the arguments are.
 pub fn add_piece(before: u32, among: bool, ws: &mut Words, fs: &Floats, bytes: usize) -> Added
     ensures { λ r. ⌜ AddsPiece before among (now (ws .entry)) (now (fs .entry)) bytes r (now (ws .exit)) ⌝ }
 {
@@ -316,7 +320,9 @@ pub fn add_piece(before: u32, among: bool, ws: &mut Words, fs: &Floats, bytes: u
 
 // What a record gets: `before` is what applies already, `own` what its words get.
 fn record_number(before: u32, own: u32, ws: &Words, count: u32, most: u32) -> u32
-    ensures { λ r. ⌜ r ≡ lower (lower before own) (unless noRoom (countsOk (planIn (now (ws .entry))) && ltb count most)) ⌝ }
+    ensures { λ r. ⌜
+        r ≡ lower (lower before own) (unless noRoom (countsOk (planIn (now (ws .entry))) && ltb count most))
+        ⌝ }
 {
     refusals::lower(
         refusals::lower(before, own),
@@ -328,7 +334,9 @@ fn record_number(before: u32, own: u32, ws: &Words, count: u32, most: u32) -> u3
 }
 
 fn with_material(ws: &mut Words, count: u32)
-    ensures { λ _. ⌜ (count ≡ countOf materials (now (ws .entry)) → now (ws .exit) ≡ withMaterialWords (now (ws .entry))) ⌝ }
+    ensures { λ _. ⌜
+        (count ≡ countOf materials (now (ws .entry)) → now (ws .exit) ≡ withMaterialWords (now (ws .entry)))
+        ⌝ }
 {
     let rec = record_words(ws, 5);
     put_row(ws, plan::MATERIAL_ROW as usize + count as usize, &rec);

@@ -3,20 +3,21 @@
 use Prim.Native.Nat.{ℕ, _+_, _≤_}
 use native.Mathlib.Nat.{add-zero, add-assoc}
 use native.Mathlib.Omega.{arith}
-use mathlib.Core.Path.{_≡_, sym}
+use mathlib.Core.Path.{_≡_}
 use mathlib.Core.Bool.{Bool, true, false}
 use mathlib.Core.List.{List, [], _∷_, _++_}
+use Rattle.words.specs.Lists.{All}
 use Rattle.plan.specs.Plan.{Piece, Plan}
 use Rattle.plan_test.specs.Tests.{cuttersOf}
-use Rattle.plan_test.specs.Exact.{PlacesAre, SoundObjects, SoundSolids}
+use Rattle.plan_test.specs.Exact.{PlaceIs, PlacesAre, SoundObjects, SoundSolids}
 
-pub cutters-append : (xs ys : List Piece) → cuttersOf (xs ++ ys) ≡ cuttersOf xs + cuttersOf ys
+cutters-append : (xs ys : List Piece) → cuttersOf (xs ++ ys) ≡ cuttersOf xs + cuttersOf ys
 unfolding cuttersOf
 cutters-append [] ys = omega arith
 cutters-append (x ∷ xs) ys = rw (cutters-append xs ys) (omega arith)
 
 -- the pieces after some have the places after theirs
-pub places-after
+places-after
     : (among : Bool) (before : ℕ) (xs ys : List Piece)
     → PlacesAre among before (xs ++ ys)
     → PlacesAre among (before + cuttersOf xs) ys
@@ -25,6 +26,40 @@ places-after among before [] ys p = rw add-zero p
 places-after among before (x ∷ xs) ys p =
     let after : ℕ = before + x .head .cutters in
     rw (← (add-assoc before (x .head .cutters) (cuttersOf xs))) (places-after among after xs ys (p .1))
+
+pub places-snoc
+    : (among : Bool) (before : ℕ) (os : List Piece) (o : Piece)
+    → PlacesAre among before os
+    → PlaceIs among (before + cuttersOf os) (o .head)
+    → PlacesAre among before (os ++ (o ∷ []))
+unfolding cuttersOf
+places-snoc among before [] o p q = (rw add-zero at q, tt)
+places-snoc among before (x ∷ os) o p q =
+    let e = add-assoc before (x .head .cutters) (cuttersOf os) in
+    (p .0, places-snoc among (before + x .head .cutters) os o (p .1) (rw e q))
+
+-- the places that pieces use: below what the objects use, or from what the planes leave on
+pub objects-reach
+    : (before most : ℕ) (os : List Piece)
+    → PlacesAre false before os
+    → before + cuttersOf os ≤ most
+    → All (λ o. o .head .place + o .head .cutters ≤ most) os
+unfolding cuttersOf
+objects-reach before most [] p h = tt
+objects-reach before most (o ∷ os) p h =
+    let here : o .head .place ≡ before = p .0 in
+    (omega arith, objects-reach (before + o .head .cutters) most os (p .1) (omega arith))
+
+pub planes-reach
+    : (before most : ℕ) (os : List Piece)
+    → PlacesAre true before os
+    → before + cuttersOf os ≤ most
+    → All (λ o. (1024 ≤ o .head .place + most) × (o .head .place + o .head .cutters ≤ 1024)) os
+unfolding cuttersOf
+planes-reach before most [] p h = tt
+planes-reach before most (o ∷ os) p h =
+    let here : o .head .place + (before + o .head .cutters) ≡ 1024 = p .0 in
+    ((omega arith, omega arith), planes-reach (before + o .head .cutters) most os (p .1) (omega arith))
 
 -- the cutters of a, from its place on, end before those of b begin
 abbrev pub EndsBefore : Piece → Piece → Type 0

@@ -1,7 +1,6 @@
--- A plan gets 0 exactly when every record to be read is one that the entries could have left. By induction on the lists.
--- Assumes nothing.
+-- A plan gets 0 exactly when every record to be read is one that the entries could have left. By induction
+-- on the lists. Assumes nothing.
 use Prim.Native.Nat.{ℕ, _+_, _≤_}
-use native.Mathlib.Omega.{arith}
 use mathlib.Core.Path.{_≡_, refl, sym, _∙_}
 use mathlib.Core.Logic.{_↔_}
 use mathlib.Core.Bool.{Bool, true, false, cond, _&&_, and-eq-true-iff}

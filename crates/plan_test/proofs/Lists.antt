@@ -4,10 +4,9 @@ use Prim.Native.Nat.{ℕ, _+_, _*_, _≤_, _<_}
 use native.Mathlib.Nat.{add-zero, zero-add, add-assoc}
 use native.Mathlib.Numerals.{add-one}
 use native.Mathlib.Omega.{arith}
-use mathlib.Core.Path.{_≡_, refl, sym, _∙_, ap}
+use mathlib.Core.Path.{_≡_, refl, sym, _∙_}
 use mathlib.Core.Bool.{Bool, true, false, cond, _&&_, and-true, and-assoc}
 use mathlib.Core.List.{List, [], _∷_, _++_}
-use lib.ListN.{length}
 use lib.Dec.{leb}
 use lib.Ieee.{Float}
 use mir.Syntax.{w64}
@@ -22,7 +21,8 @@ use Rattle.plan.specs.Plan.{Piece, pieceAt, piecesFrom, countOf, planOf, seen, 
 use Rattle.plan_test.specs.declared.Tally.{Tally}
 use Rattle.plan_test.specs.declared.Solids.{Solids}
 use Rattle.plan_test.specs.Numbers.{lightNumber, ownNumber, pieceOwn, pieceCuts}
-use Rattle.plan_test.specs.Tests.{countsOk, cuttersOf, placeOk, placesOk, tallyOf, objectsNumber, solidsOf, litNumber}
+use Rattle.plan_test.specs.Tests.{countsOk, cuttersOf, placeOk, placesOk, tallyOf, objectsNumber, solidsOf}
+use Rattle.plan_test.specs.Tests.{litNumber}
 
 -- ---- counts do not depend on floats
 pub counts-words
@@ -39,7 +39,7 @@ counts-words w f =
       length-from (pieceAt w f) (objects .first) (countOf objects w),
     )
 
-pub counts-any : (w : List ℕ) (f g : List Float) → countsOk (planOf w f) ≡ countsOk (planOf w g)
+counts-any : (w : List ℕ) (f g : List Float) → countsOk (planOf w f) ≡ countsOk (planOf w g)
 counts-any w f g = counts-words w f ∙ sym (counts-words w g)
 
 -- ---- one piece more at the end of a list
@@ -48,9 +48,10 @@ unfolding cuttersOf
 cutters-snoc [] o = omega arith
 cutters-snoc (x ∷ os) o = rw (cutters-snoc os o) (omega arith)
 
-pub placed-snoc
+placed-snoc
     : (among : Bool) (before : ℕ) (os : List Piece) (o : Piece)
-    → placesOk among before (os ++ (o ∷ [])) ≡ (placesOk among before os && placeOk among (before + cuttersOf os) (o .head))
+    → placesOk among before (os ++ (o ∷ []))
+    ≡ (placesOk among before os && placeOk among (before + cuttersOf os) (o .head))
 unfolding placesOk cuttersOf
 placed-snoc among before [] o = rw (add-zero, and-true)
 placed-snoc among before (x ∷ os) o =
@@ -65,7 +66,9 @@ module _ (w : List ℕ) (f : List Float) (r : ℕ) where
   unfolding cuttersOf piecesFrom listFrom
   used-start = refl
 
-  pub used-more : (j : ℕ) → cuttersOf (piecesFrom w f r (j + 1)) ≡ cuttersOf (piecesFrom w f r j) + headAt w f (r + j) .cutters
+  pub used-more
+      : (j : ℕ)
+      → cuttersOf (piecesFrom w f r (j + 1)) ≡ cuttersOf (piecesFrom w f r j) + headAt w f (r + j) .cutters
   unfolding piecesFrom pieceAt
   used-more j = rw (add-one, from-snoc (pieceAt w f) r j, cutters-snoc)
 
@@ -124,7 +127,9 @@ module _ (w : List ℕ) (f : List Float) where
       : objectsNumber (planOf w f)
       ≡ cond (countsOk (planIn w))
       (lower (tallied false objectsIn .number)
-      (cond (tallied false objectsIn .placed && leb (tallied false objectsIn .used) 1024) (lowestOf pieceCuts objectsIn) noRoom))
+      (cond (tallied false objectsIn .placed && leb (tallied false objectsIn .used) 1024)
+      (lowestOf pieceCuts objectsIn)
+      noRoom))
       noRoom
   unfolding objectsNumber planOf
   objects-words = rw (counts-any w f (seen w), length-from (materialAt f) (materials .first) (countOf materials w))
@@ -134,12 +139,16 @@ module _ (w : List ℕ) (f : List Float) where
       record {
         number =
             lower (lower (tallied true planesIn .number) (tallied false objectsIn .number))
-            (lower (cond allPlaced (lowestOf pieceCuts planesIn) noRoom) (cond allPlaced (lowestOf pieceCuts objectsIn) noRoom));
+            (lower
+            (cond allPlaced (lowestOf pieceCuts planesIn) noRoom)
+            (cond allPlaced (lowestOf pieceCuts objectsIn) noRoom));
         planes = tallied true planesIn .used;
         objects = tallied false objectsIn .used;
       }
 
-  pub solids-words : solidsOf (planOf w f) ≡ cond (countsOk (planIn w)) solidsIn (record { number = noRoom; planes = 0; objects = 0 })
+  pub solids-words
+      : solidsOf (planOf w f)
+      ≡ cond (countsOk (planIn w)) solidsIn (record { number = noRoom; planes = 0; objects = 0 })
   unfolding solidsOf planOf
   solids-words =
       rw (

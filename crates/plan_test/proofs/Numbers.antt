@@ -16,7 +16,7 @@ use Rattle.refusals.proofs.Lowest.{told, unless-zero, lower-zero, lowest-exact}
 use Rattle.plan.specs.declared.QuadLight.{QuadLight}
 use Rattle.plan.specs.declared.Cutter.{Cutter}
 use Rattle.plan.specs.declared.Head.{Head}
-use Rattle.plan.specs.Plan.{Cuts, Piece}
+use Rattle.plan.specs.Plan.{Cuts}
 use Rattle.plan_test.specs.Numbers.{dark, cornersOk, lightNumber, cutterNumber, cutsNumber, ownNumber}
 use Rattle.plan_test.specs.Exact.{PrimOk, CutterOk, HeadOk, LightOk}
 

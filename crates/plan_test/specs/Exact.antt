@@ -41,7 +41,8 @@ pub record PieceOk (planes : Bool) (materials : ℕ) (o : Piece) : Type 0 where
   pub few : o .head .cutters ≤ cutsMost
   pub cuts : All CutterOk (o .cuts)
 
--- "The 1,024 cutter places are shared from both ends, with no gap": the place of a piece after pieces with so many cutters
+-- "The 1,024 cutter places are shared from both ends, with no gap": the place of a piece after pieces with so many
+-- cutters
 abbrev pub PlaceIs : Bool → ℕ → Head → Type 0
 PlaceIs true before h = h .place + (before + h .cutters) ≡ cutterPlaces
 PlaceIs false before h = h .place ≡ before

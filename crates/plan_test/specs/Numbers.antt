@@ -38,7 +38,8 @@ cutterNumber c = primNumber (c .kind) (c .shape)
 unfoldable pub cutsNumber : Cuts → ℕ
 cutsNumber cs = lowestOf cutterNumber cs
 
--- a piece's own words, in the list of planes or in that of objects: 1 for kind, numbers and blend, 3, 4, and 5 for the wrong list
+-- a piece's own words, in the list of planes or in that of objects: 1 for kind, numbers and blend, 3, 4, and 5 for the
+-- wrong list
 unfoldable pub ownNumber : Bool → ℕ → Head → ℕ
 ownNumber planes materials h =
     lower (lower (primNumber (h .kind) (h .shape)) (unless badNumber (radius (h .blend))))

@@ -1,7 +1,8 @@
--- "Each public call first tests what it will read, once: a broken plan gets the number that its entry would have got (2 for a bad count or cutter place,
--- 1 for any other word no call leaves)." Definitions only.
--- "Every call that is lent the plan tests its four counts; where one is too high (2) nothing else of the plan is judged. Where a tested piece's number of
--- cutters or its place is bad, or their sum is above 1,024 (2), no cutter's words are judged; the pieces' own words are."
+-- "Each public call first tests what it will read, once: a broken plan gets the number that its entry would have got
+-- (2 for a bad count or cutter place, 1 for any other word no call leaves)." Definitions only.
+-- "Every call that is lent the plan tests its four counts; where one is too high (2) nothing else of the plan is
+-- judged. Where a tested piece's number of cutters or its place is bad, or their sum is above 1,024 (2), no cutter's
+-- words are judged; the pieces' own words are."
 use Prim.Native.Nat.{ℕ, _+_}
 use mathlib.Core.Bool.{Bool, true, false, cond, _&&_}
 use mathlib.Core.List.{List, [], _∷_}
@@ -9,7 +10,7 @@ use lib.ListN.{length}
 use lib.Dec.{leb, eqb}
 use Rattle.refusals.specs.Refusals.{noRoom, lower, lowestOf}
 use Rattle.plan.specs.declared.Head.{Head}
-use Rattle.plan.specs.Sections.{Section, cutterPlaces, cutsMost}
+use Rattle.plan.specs.Sections.{cutterPlaces, cutsMost}
 use Rattle.plan.specs.Sections as sections
 use Rattle.plan.specs.Plan.{Piece, Plan}
 use Rattle.plan_test.specs.declared.Tally.{Tally}
@@ -28,10 +29,12 @@ unfoldable pub cuttersOf : List Piece → ℕ
 cuttersOf [] = 0
 cuttersOf (o ∷ os) = o .head .cutters + cuttersOf os
 
--- "an object's place is the number of cutters of the objects before it; a plane's place is 1,024 less the cutters of the planes up to and with it"
+-- "an object's place is the number of cutters of the objects before it; a plane's place is 1,024 less the cutters of
+-- the planes up to and with it"
 unfoldable pub placeOk : Bool → ℕ → Head → Bool
 placeOk planes before h =
-    leb (h .cutters) cutsMost && cond planes (eqb (h .place + (before + h .cutters)) cutterPlaces) (eqb (h .place) before)
+    leb (h .cutters) cutsMost
+    && cond planes (eqb (h .place + (before + h .cutters)) cutterPlaces) (eqb (h .place) before)
 
 -- the pieces' places, after pieces with so many cutters
 unfoldable pub placesOk : Bool → ℕ → List Piece → Bool

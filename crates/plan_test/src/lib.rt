@@ -1,4 +1,5 @@
-// Tests of a plan: which number it gets for the sections that a call reads, and what a record gets wherever it is given.
+// Tests of a plan: which number it gets for the sections that a call reads, and what a record gets wherever it is
+// given.
 ghost use mathlib.Core.Path.{_≡_};
 ghost use mathlib.Core.Bool.{true, false, cond, Bool·beq};
 ghost use Prim.Native.Nat.{_+_};
@@ -8,7 +9,8 @@ ghost use Rattle.refusals.specs.Refusals.{lowestOf, noRoom};
 ghost use Rattle.plan.specs.Sections.{materials};
 ghost use Rattle.plan.specs.Records.{lightIn};
 ghost use Rattle.plan.specs.Plan.{cutsBy, pieceAt, piecesFrom, countOf, planOf, planIn};
-ghost use Rattle.plan_test.specs.Numbers.{materialNumber, dark, lightNumber, cutterNumber, cutsNumber, ownNumber, pieceCuts};
+ghost use Rattle.plan_test.specs.Numbers.{materialNumber, dark, lightNumber, cutterNumber, cutsNumber};
+ghost use Rattle.plan_test.specs.Numbers.{ownNumber, pieceCuts};
 ghost use Rattle.plan_test.specs.Tests.{countsOk, placeOk, tallyOf, objectsNumber, solidsOf, litNumber};
 use plan::Cutter;
 use plan::Floats;
@@ -144,7 +146,9 @@ fn place_ok(planes: bool, before: u64, h: Head) -> bool
 
 // n pieces from row r on. No sum of so many words wraps.
 fn tally_rows(ws: &Words, fs: &Floats, planes: bool, r: u32, n: u32) -> Tally
-    ensures { λ t. ⌜ t ≡ tallyOf planes (countOf materials (now (ws .entry))) (piecesFrom (now (ws .entry)) (now (fs .entry)) r n) ⌝ }
+    ensures { λ t. ⌜
+        t ≡ tallyOf planes (countOf materials (now (ws .entry))) (piecesFrom (now (ws .entry)) (now (fs .entry)) r n)
+        ⌝ }
 {
     let materials = ws[plan::COUNT_MATERIALS];
     let mut number: u32 = 0;
@@ -209,7 +213,9 @@ fn pieces_cuts(ws: &Words, fs: &Floats, r: u32, n: u32) -> u32
 
 // The same, where every place is right.
 fn placed_cuts(ws: &Words, fs: &Floats, placed: bool, r: u32, n: u32) -> u32
-    ensures { λ m. ⌜ m ≡ cond placed (lowestOf pieceCuts (piecesFrom (now (ws .entry)) (now (fs .entry)) r n)) noRoom ⌝ }
+    ensures { λ m. ⌜
+        m ≡ cond placed (lowestOf pieceCuts (piecesFrom (now (ws .entry)) (now (fs .entry)) r n)) noRoom
+        ⌝ }
 {
     if placed {
         return pieces_cuts(ws, fs, r, n);

@@ -7,7 +7,7 @@ use native.Mathlib.Nat.{add-zero, sub-zero}
 use native.Mathlib.Omega.{arith}
 use lib.ListN.{length, getD, set, take, drop, drop-of-length-le}
 use lib.Seq.{drop-cons, take-suc-set, take-all}
-use Rattle.words.specs.Lists.{listFrom}
+use Rattle.words.specs.Lists.{listFrom, All}
 use Rattle.words.specs.Words.{wordAt, wordsOf, putWord, putWords}
 
 module _ {A : Type 0} (f : ℕ → A) where
@@ -60,6 +60,23 @@ module _ {A : Type 0} where
   getD-past f a zero i d h = refl
   getD-past f a (suc n) zero d h = absurd (omega arith)
   getD-past f a (suc n) (suc i) d h = getD-past f (suc a) n i d (omega arith)
+
+  -- what holds of each of such a list holds at each index
+  pub all-from : (P : A → Type 0) (f : ℕ → A) (a n : ℕ) → All P (listFrom f a n) → (k : ℕ) → k < n → P (f (a + k))
+  unfolding listFrom
+  all-from P f a zero s k h = absurd (omega arith)
+  all-from P f a (suc n) s zero h = rw add-zero (s .0)
+  all-from P f a (suc n) s (suc k) h =
+      let e : a + suc k ≡ suc a + k = omega arith in
+      rw e (all-from P f (suc a) n (s .1) k (omega arith))
+
+  pub all-map : (P Q : A → Type 0) → ((x : A) → P x → Q x) → (xs : List A) → All P xs → All Q xs
+  all-map P Q f [] s = tt
+  all-map P Q f (x ∷ xs) s = (f x (s .0), all-map P Q f xs (s .1))
+
+  pub all-snoc : (P : A → Type 0) (xs : List A) (x : A) → All P xs → P x → All P (xs ++ (x ∷ []))
+  all-snoc P [] x s p = (p, tt)
+  all-snoc P (y ∷ xs) x s p = (s .0, all-snoc P xs x (s .1) p)
 
 -- a loop that writes words from 0 on: a turn, and the end
 pub puts-step : (b ws : List ℕ) (i : ℕ) → i < length ws → putWords b i (drop i ws) ≡ putWords (putWord b i (getD ws i 0)) (i + 1) (drop (i + 1) ws)

@@ -15,7 +15,8 @@ returns c =
     (rw (← (m .before .before .word-in .ensures), ← (m .before .material-at .ensures), ← (m .material-number .ensures))
     (n .record-number .ensures))
     (rw (← (m .before .before .word-in .ensures)) (c .added-of .ensures))
-    (rw (eq-eqb _ 0 (c .before .before .before .if1 .taken)) (c .before .with-material .ensures (m .before .before .word-in .ensures)))
+    (rw (eq-eqb _ 0 (c .before .before .before .if1 .taken))
+    (c .before .with-material .ensures (m .before .before .word-in .ensures)))
 
 returns-2 : tie.Need-returns-2
 unfolding recordNumber

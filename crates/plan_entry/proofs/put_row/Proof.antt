@@ -1,4 +1,5 @@
--- `plan_entry::put_row` meets its contract: what is left to write, written into the table so far, is the whole. Assumes nothing.
+-- `plan_entry::put_row` meets its contract: what is left to write, written into the table so far, is the whole. Assumes
+-- nothing.
 use borrow.Author.Needs.{needs}
 use Prim.Native.Nat.{_≤_, _+_, _-_, _*_}
 use mathlib.Core.Path.{_≡_, sym, _∙_}

@@ -8,7 +8,8 @@ use Rattle.plan_entry.proofs.used_word.Tie as tie
 
 returns : tie.Need-returns
 unfolding usedWord
-returns c = rw (sym (c .before .before .used-words .ensures), lt-ltb _ _ (c .before .if1 .taken)) (c .word-after .ensures)
+returns c =
+    rw (sym (c .before .before .used-words .ensures), lt-ltb _ _ (c .before .if1 .taken)) (c .word-after .ensures)
 
 returns-2 : tie.Need-returns-2
 unfolding usedWord

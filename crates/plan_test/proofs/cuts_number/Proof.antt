@@ -13,7 +13,8 @@ use Rattle.plan_test.proofs.cuts_number.Statement.{statement}
 use Rattle.plan_test.proofs.cuts_number.Tie as tie
 
 abbrev Inv-loop : tie.InvT-loop
-Inv-loop ws fs base place n least₀ j₀ least j = (j ≤ n) × (least ≡ lowestOf cutterNumber (listFrom (cutterAt ws fs) (base + place) j))
+Inv-loop ws fs base place n least₀ j₀ least j =
+    (j ≤ n) × (least ≡ lowestOf cutterNumber (listFrom (cutterAt ws fs) (base + place) j))
 
 abbrev μ-loop : tie.MeasureT-loop
 μ-loop ws fs base place n least₀ j₀ least j = n - j

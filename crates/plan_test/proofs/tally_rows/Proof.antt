@@ -1,7 +1,7 @@
 -- `plan_test::tally_rows` meets its contract: the tally so far is that of the pieces passed, and no sum of so many
 -- words wraps. Assumes nothing.
 use borrow.Author.Needs.{needs}
-use Prim.Native.Nat.{_+_, _*_, _≤_, _-_}
+use Prim.Native.Nat.{_*_, _≤_, _-_}
 use mathlib.Core.Path.{_≡_}
 use native.Mathlib.Omega.{arith}
 use Rattle.refusals.specs.Refusals.{lowestOf}

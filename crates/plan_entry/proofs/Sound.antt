@@ -1,0 +1,143 @@
+-- A sound plan with an accepted piece, material or light more is sound. Over the plan as a value: each list's statement
+-- with one more at the end. Assumes nothing.
+use Prim.Native.Nat.{ℕ, _+_, _<_, _≤_}
+use native.Mathlib.Nat.{zero-add}
+use native.Mathlib.Omega.{arith}
+use mathlib.Core.Bool.{Bool, true, false}
+use mathlib.Core.List.{List, [], _∷_, _++_}
+use lib.ListN.{length, length-append}
+use Rattle.words.proofs.Runs.{all-map, all-snoc}
+use Rattle.plan.specs.declared.Material.{Material}
+use Rattle.plan.specs.declared.QuadLight.{QuadLight}
+use Rattle.plan.specs.Plan.{Piece, Plan, withMaterial, withLight}
+use Rattle.plan_test.specs.Tests.{cuttersOf}
+use Rattle.plan_test.specs.Exact.{PieceOk, PlaceIs, PiecesOk, LightOk, SoundLit}
+use Rattle.plan_test.proofs.Lists.{cutters-snoc}
+use Rattle.plan_test.proofs.Apart.{places-snoc}
+use Rattle.plan_entry.specs.Entry.{sectionOf}
+use Rattle.plan_entry.specs.After.{withOne}
+
+abbrev pub listOf : Bool → Plan → List Piece
+listOf true p = p .planes
+listOf false p = p .objects
+
+-- a piece that enters
+pub record Fits (among : Bool) (p : Plan) (o : Piece) : Type 0 where
+  pub count : length (listOf among p) < sectionOf among .most
+  pub piece : PieceOk among (length (p .materials)) o
+  pub place : PlaceIs among (cuttersOf (listOf among p)) (o .head)
+  pub room : cuttersOf (p .planes) + (cuttersOf (p .objects) + o .head .cutters) ≤ 1024
+
+pieces-more
+    : (among : Bool) (m : ℕ) (os : List Piece) (o : Piece)
+    → PiecesOk among m os
+    → PieceOk among m o
+    → PlaceIs among (cuttersOf os) (o .head)
+    → PiecesOk among m (os ++ (o ∷ []))
+pieces-more among m os o s k p =
+    record {
+      each = all-snoc (PieceOk among m) os o (s .each) k;
+      places = places-snoc among 0 os o (s .places) (rw zero-add p);
+    }
+
+pub piece-sound : (among : Bool) (p : Plan) (o : Piece) → SoundLit p → Fits among p o → SoundLit (withOne among p o)
+piece-sound true p o s f =
+    let c = s .solids .counts in
+    record {
+      solids =
+          record {
+            counts =
+                record {
+                  materials = c .materials;
+                  planes = simp length-append (omega (arith, f .count));
+                  lights = c .lights;
+                  objects = c .objects;
+                };
+            planes = pieces-more true (length (p .materials)) (p .planes) o (s .solids .planes) (f .piece) (f .place);
+            objects = s .solids .objects;
+            room = rw (cutters-snoc (p .planes) o) (omega (arith, f .room));
+          };
+      lights = s .lights;
+    }
+piece-sound false p o s f =
+    let c = s .solids .counts in
+    record {
+      solids =
+          record {
+            counts =
+                record {
+                  materials = c .materials;
+                  planes = c .planes;
+                  lights = c .lights;
+                  objects = simp length-append (omega (arith, f .count));
+                };
+            planes = s .solids .planes;
+            objects =
+                pieces-more false (length (p .materials)) (p .objects) o (s .solids .objects) (f .piece) (f .place);
+            room = rw (cutters-snoc (p .objects) o) (omega (arith, f .room));
+          };
+      lights = s .lights;
+    }
+
+-- a piece's material is present where there are more
+more-materials : (among : Bool) (m n : ℕ) → m ≤ n → (os : List Piece) → PiecesOk among m os → PiecesOk among n os
+more-materials among m n h os s =
+    record { each = all-map (PieceOk among m) (PieceOk among n) one os (s .each); places = s .places }
+  where
+    one : (o : Piece) → PieceOk among m o → PieceOk among n o
+    one o k =
+        let own = k .own in
+        let material = own .material in
+        record {
+          own = record { prim = own .prim; blend = own .blend; material = omega arith; list = own .list };
+          few = k .few;
+          cuts = k .cuts;
+        }
+
+pub material-sound : (p : Plan) (m : Material) → SoundLit p → length (p .materials) < 64 → SoundLit (withMaterial p m)
+material-sound p m s h =
+    let c = s .solids .counts in
+    let n : ℕ = length (p .materials) in
+    let more : n ≤ length (p .materials ++ (m ∷ [])) = simp length-append (omega arith) in
+    let all : ℕ = length (p .materials ++ (m ∷ [])) in
+    record {
+      solids =
+          record {
+            counts =
+                record {
+                  materials = simp length-append (omega arith);
+                  planes = c .planes;
+                  lights = c .lights;
+                  objects = c .objects;
+                };
+            planes = more-materials true n all more (p .planes) (s .solids .planes);
+            objects = more-materials false n all more (p .objects) (s .solids .objects);
+            room = s .solids .room;
+          };
+      lights = s .lights;
+    }
+
+pub light-sound
+    : (p : Plan) (l : QuadLight)
+    → SoundLit p
+    → length (p .lights) < 16
+    → LightOk l
+    → SoundLit (withLight p l)
+light-sound p l s h k =
+    let c = s .solids .counts in
+    record {
+      solids =
+          record {
+            counts =
+                record {
+                  materials = c .materials;
+                  planes = c .planes;
+                  lights = simp length-append (omega arith);
+                  objects = c .objects;
+                };
+            planes = s .solids .planes;
+            objects = s .solids .objects;
+            room = s .solids .room;
+          };
+      lights = all-snoc LightOk (p .lights) l (s .lights) k;
+    }
