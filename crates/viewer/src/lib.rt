@@ -4,6 +4,8 @@ ghost use lib.ListN.{length};
 ghost use Rattle.wire.specs.Sent.{Sent};
 ghost use Rattle.bemitondry.specs.Calls.{queryReply, distMatReply};
 ghost use Rattle.viewer.specs.Calls.{rootLent, acosLent, primDistLent, primBoundsLent, askReply};
+ghost use Rattle.viewer.specs.Entries.{MaterialSent, LightSent, PlaneSent, ObjectSent};
+ghost use Rattle.viewer.specs.Trees.{buildStores, BuildSent, OfferSent};
 
 #[no_mangle]
 pub extern "C" fn viewer_root(args: &[u8], out: &mut [u8]) -> u32
@@ -118,4 +120,142 @@ pub extern "C" fn viewer_dist_mat(
         out.len(),
     );
     wire::send(bemitondry::dist_mat(n, tree, &ws, &fs), out)
+}
+
+#[no_mangle]
+pub extern "C" fn viewer_add_material(plan: &mut [u8], args: &[u8], out: &mut [u8]) -> u32
+    ensures { λ n.
+        ⌜ MaterialSent (now (plan .entry)) (now (args .entry)) (now (out .entry)) n (now (plan .exit))
+        (now (out .exit)) ⌝ }
+{
+    let mut ws = [0u32; 27296];
+    let mut fs = [0.0f32; 27296];
+    wire::load_plan(20, plan, args, &mut ws, &mut fs);
+    let n = wire::plan_before(plan.len(), 20, args.len(), out.len());
+    let r = bemitondry::add_material(n, &mut ws, &fs);
+    wire::store_part(r.number == 0, &ws, plan::ARGS, plan);
+    wire::send(r, out)
+}
+
+#[no_mangle]
+pub extern "C" fn viewer_add_light(plan: &mut [u8], args: &[u8], out: &mut [u8]) -> u32
+    ensures { λ n.
+        ⌜ LightSent (now (plan .entry)) (now (args .entry)) (now (out .entry)) n (now (plan .exit))
+        (now (out .exit)) ⌝ }
+{
+    let mut ws = [0u32; 27296];
+    let mut fs = [0.0f32; 27296];
+    wire::load_plan(60, plan, args, &mut ws, &mut fs);
+    let n = wire::plan_before(plan.len(), 60, args.len(), out.len());
+    let r = bemitondry::add_light(n, &mut ws, &fs);
+    wire::store_part(r.number == 0, &ws, plan::ARGS, plan);
+    wire::send(r, out)
+}
+
+#[no_mangle]
+pub extern "C" fn viewer_add_plane(plan: &mut [u8], args: &[u8], out: &mut [u8]) -> u32
+    ensures { λ n.
+        ⌜ PlaneSent (now (plan .entry)) (now (args .entry)) (now (out .entry)) n (now (plan .exit))
+        (now (out .exit)) ⌝ }
+{
+    let mut ws = [0u32; 27296];
+    let mut fs = [0.0f32; 27296];
+    wire::load_plan(64, plan, args, &mut ws, &mut fs);
+    let n = wire::plan_before(plan.len(), 64, args.len(), out.len());
+    let r = bemitondry::add_piece(n, true, &mut ws, &fs, args.len());
+    wire::store_part(r.number == 0, &ws, plan::ARGS, plan);
+    wire::send(r, out)
+}
+
+#[no_mangle]
+pub extern "C" fn viewer_add_object(
+    plan: &mut [u8],
+    nodes: &mut [u8],
+    order: &mut [u8],
+    args: &[u8],
+    out: &mut [u8],
+) -> u32
+    ensures { λ n.
+        ⌜ ObjectSent (now (plan .entry)) (now (nodes .entry)) (now (order .entry)) (now (args .entry))
+        (now (out .entry)) n (now (plan .exit)) (now (nodes .exit)) (now (order .exit)) (now (out .exit)) ⌝ }
+{
+    let mut ws = [0u32; 27296];
+    let mut fs = [0.0f32; 27296];
+    wire::load_plan(64, plan, args, &mut ws, &mut fs);
+    let n = wire::tree_tables_before(
+        plan.len(),
+        nodes.len(),
+        order.len(),
+        64,
+        args.len(),
+        out.len(),
+    );
+    let r = bemitondry::add_piece(n, false, &mut ws, &fs, args.len());
+    wire::store_part(r.number == 0, &ws, plan::ARGS, plan);
+    wire::clear(r.number == 0, nodes, wire::NODES_BYTES);
+    wire::clear(r.number == 0, order, wire::ORDER_BYTES);
+    wire::send(r, out)
+}
+
+// A build leaves its tables where it is done, and zeros where the tree is too deep.
+fn build_stores(number: u32) -> bool
+    ensures { λ r. ⌜ r ≡ buildStores number ⌝ }
+{
+    if number == 0 {
+        return true;
+    }
+    number == refusals::TOO_DEEP
+}
+
+#[no_mangle]
+pub extern "C" fn viewer_build(
+    plan: &[u8],
+    nodes: &mut [u8],
+    order: &mut [u8],
+    out: &mut [u8],
+) -> u32
+    ensures { λ n.
+        ⌜ BuildSent (now (plan .entry)) (now (nodes .entry)) (now (order .entry)) (now (out .entry)) n
+        (now (nodes .exit)) (now (order .exit)) (now (out .exit)) ⌝ }
+{
+    let mut ws = [0u32; 27296];
+    let mut fs = [0.0f32; 27296];
+    wire::load_plan(0, plan, wire::none(plan), &mut ws, &mut fs);
+    let n = wire::tree_tables_before(plan.len(), nodes.len(), order.len(), 0, 0, out.len());
+    let mut nw = [0u32; 4599];
+    let mut ow = [0u32; 256];
+    let r = bemitondry::build(n, &ws, &fs, &mut nw, &mut ow);
+    let stores = build_stores(r.number);
+    wire::store_part(stores, &nw, 4599, nodes);
+    wire::store_part(stores, &ow, 256, order);
+    wire::send(r, out)
+}
+
+// The tree is offered in the tables given (its nodes) and ranks (its order).
+#[no_mangle]
+pub extern "C" fn viewer_offer(
+    plan: &[u8],
+    nodes: &mut [u8],
+    order: &mut [u8],
+    given: &[u8],
+    ranks: &[u8],
+    out: &mut [u8],
+) -> u32
+    ensures { λ n.
+        ⌜ OfferSent (now (plan .entry)) (now (nodes .entry)) (now (order .entry)) (now (given .entry))
+        (now (ranks .entry)) (now (out .entry)) n (now (nodes .exit)) (now (order .exit)) (now (out .exit)) ⌝ }
+{
+    let mut ws = [0u32; 27296];
+    let mut fs = [0.0f32; 27296];
+    wire::load_ask(0, plan, given, ranks, 1, wire::none(plan), &mut ws, &mut fs);
+    let n = refusals::lower(
+        wire::tree_tables_before(plan.len(), nodes.len(), order.len(), 0, 0, out.len()),
+        wire::tables_before(given.len(), ranks.len()),
+    );
+    let mut nw = [0u32; 4599];
+    let mut ow = [0u32; 256];
+    let r = bemitondry::offer(n, &ws, &fs, &mut nw, &mut ow);
+    wire::store_part(r.number == 0, &nw, 4599, nodes);
+    wire::store_part(r.number == 0, &ow, 256, order);
+    wire::send(r, out)
 }

@@ -21,6 +21,10 @@ planBefore plan need args out = lower (shortNumber plan planBytes) (argsBefore n
 unfoldable pub tablesBefore : ℕ → ℕ → ℕ
 tablesBefore nodes order = lower (shortNumber nodes nodesBytes) (shortNumber order orderBytes)
 
+-- a call that writes the tree's tables
+unfoldable pub treeTablesBefore : ℕ → ℕ → ℕ → ℕ → ℕ → ℕ → ℕ
+treeTablesBefore plan nodes order need args out = lower (planBefore plan need args out) (tablesBefore nodes order)
+
 -- "`tree` is 1 for the tree, 0 for the plain list; another number gets 1"
 unfoldable pub treeBefore : ℕ → ℕ → ℕ → ℕ
 treeBefore tree nodes order = cond (eqb tree 1) (tablesBefore nodes order) (unless badNumber (eqb tree 0))

@@ -3,7 +3,7 @@ ghost use mathlib.Core.Path.{_≡_};
 ghost use mathlib.Core.List.{[]};
 ghost use Rattle.plan.specs.Plan.{seen};
 ghost use Rattle.wire.specs.Lent.{shortNumber, lentOf, usedOf, givenFloat, givenVec, loadedPart, tableOf, planTable, askTable};
-ghost use Rattle.wire.specs.Sent.{argsBefore, planBefore, tablesBefore, treeBefore, askBefore, storedPart, clearedFront, cleared, Sent};
+ghost use Rattle.wire.specs.Sent.{argsBefore, planBefore, tablesBefore, treeTablesBefore, treeBefore, askBefore, storedPart, clearedFront, cleared, Sent};
 use plan::Floats;
 use plan::Words;
 use reply::Reply;
@@ -156,6 +156,23 @@ pub fn tables_before(nodes: usize, order: usize) -> u32
     ensures { λ r. ⌜ r ≡ tablesBefore nodes order ⌝ }
 {
     refusals::lower(short(nodes, NODES_BYTES), short(order, ORDER_BYTES))
+}
+
+// What applies to a call that writes the tree's tables.
+pub fn tree_tables_before(
+    plan: usize,
+    nodes: usize,
+    order: usize,
+    need: usize,
+    args: usize,
+    out: usize,
+) -> u32
+    ensures { λ r. ⌜ r ≡ treeTablesBefore plan nodes order need args out ⌝ }
+{
+    refusals::lower(
+        plan_before(plan, need, args, out),
+        tables_before(nodes, order),
+    )
 }
 
 // What applies by `tree`: 1 is the tree, 0 the plain list.

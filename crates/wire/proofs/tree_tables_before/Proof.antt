@@ -1,0 +1,14 @@
+-- `wire::tree_tables_before` meets its contract, by those of its calls. Assumes nothing.
+use Rattle.wire.specs.Sent.{treeTablesBefore}
+use borrow.Author.Needs.{needs}
+use Rattle.wire.proofs.tree_tables_before.Statement.{statement}
+use Rattle.wire.proofs.tree_tables_before.Tie as tie
+
+returns : tie.Need-returns
+unfolding treeTablesBefore
+returns c = cc
+
+pub tree-tables-before-spec : {M : Type 1} → statement M
+tree-tables-before-spec =
+    tie.close (tie.spec
+    (λ c κs. search needs) (λ c κs. search needs) (λ c κs. search needs) returns)
