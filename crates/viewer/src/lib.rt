@@ -133,7 +133,7 @@ pub extern "C" fn viewer_add_material(plan: &mut [u8], args: &[u8], out: &mut [u
     wire::load_plan(20, plan, args, &mut ws, &mut fs);
     let n = wire::plan_before(plan.len(), 20, args.len(), out.len());
     let r = bemitondry::add_material(n, &mut ws, &fs);
-    wire::store_part(r.number == 0, &ws, plan::ARGS, plan);
+    wire::store_plan(r.number == 0, &ws, plan);
     wire::send(r, out)
 }
 
@@ -148,7 +148,7 @@ pub extern "C" fn viewer_add_light(plan: &mut [u8], args: &[u8], out: &mut [u8])
     wire::load_plan(60, plan, args, &mut ws, &mut fs);
     let n = wire::plan_before(plan.len(), 60, args.len(), out.len());
     let r = bemitondry::add_light(n, &mut ws, &fs);
-    wire::store_part(r.number == 0, &ws, plan::ARGS, plan);
+    wire::store_plan(r.number == 0, &ws, plan);
     wire::send(r, out)
 }
 
@@ -163,7 +163,7 @@ pub extern "C" fn viewer_add_plane(plan: &mut [u8], args: &[u8], out: &mut [u8])
     wire::load_plan(64, plan, args, &mut ws, &mut fs);
     let n = wire::plan_before(plan.len(), 64, args.len(), out.len());
     let r = bemitondry::add_piece(n, true, &mut ws, &fs, args.len());
-    wire::store_part(r.number == 0, &ws, plan::ARGS, plan);
+    wire::store_plan(r.number == 0, &ws, plan);
     wire::send(r, out)
 }
 
@@ -191,7 +191,7 @@ pub extern "C" fn viewer_add_object(
         out.len(),
     );
     let r = bemitondry::add_piece(n, false, &mut ws, &fs, args.len());
-    wire::store_part(r.number == 0, &ws, plan::ARGS, plan);
+    wire::store_plan(r.number == 0, &ws, plan);
     wire::clear(r.number == 0, nodes, wire::NODES_BYTES);
     wire::clear(r.number == 0, order, wire::ORDER_BYTES);
     wire::send(r, out)
@@ -226,8 +226,8 @@ pub extern "C" fn viewer_build(
     let mut ow = [0u32; 256];
     let r = bemitondry::build(n, &ws, &fs, &mut nw, &mut ow);
     let stores = build_stores(r.number);
-    wire::store_part(stores, &nw, 4599, nodes);
-    wire::store_part(stores, &ow, 256, order);
+    wire::store_nodes(stores, &nw, nodes);
+    wire::store_order(stores, &ow, order);
     wire::send(r, out)
 }
 
@@ -255,7 +255,7 @@ pub extern "C" fn viewer_offer(
     let mut nw = [0u32; 4599];
     let mut ow = [0u32; 256];
     let r = bemitondry::offer(n, &ws, &fs, &mut nw, &mut ow);
-    wire::store_part(r.number == 0, &nw, 4599, nodes);
-    wire::store_part(r.number == 0, &ow, 256, order);
+    wire::store_nodes(r.number == 0, &nw, nodes);
+    wire::store_order(r.number == 0, &ow, order);
     wire::send(r, out)
 }

@@ -8,6 +8,7 @@ use lib.ListN.{length, take, drop, replicate}
 use lib.Dec.{leb, eqb}
 use Rattle.words.specs.Words.{withWords, sentWords}
 use Rattle.refusals.specs.Refusals.{badNumber, unless, lower}
+use Rattle.plan.specs.Sections.{planWords}
 use Rattle.reply.specs.declared.Reply.{Reply}
 use Rattle.wire.specs.Lent.{planBytes, nodesBytes, orderBytes, outBytes, shortNumber}
 
@@ -34,9 +35,16 @@ unfoldable pub askBefore : ℕ → ℕ → ℕ → ℕ → ℕ → ℕ → ℕ �
 askBefore need plan nodes order tree args out = lower (planBefore plan need args out) (treeBefore tree nodes order)
 
 -- ---- what is left
--- the first n words of a table, where they are to be stored
-unfoldable pub storedPart : Bool → List ℕ → ℕ → List ℕ → List ℕ
-storedPart stores words n b = cond (stores && leb n (length words)) (withWords b (take n words)) b
+-- the first n words of a table
+unfoldable pub storedFront : List ℕ → ℕ → List ℕ → List ℕ
+storedFront words n b = cond (leb n (length words)) (withWords b (take n words)) b
+
+-- the plan's words of a call's table, where they are to be stored
+unfoldable pub storedPlan : Bool → List ℕ → List ℕ → List ℕ
+storedPlan stores w b = cond stores (withWords b (take planWords w)) b
+
+unfoldable pub storedTable : Bool → List ℕ → List ℕ → List ℕ
+storedTable stores words b = cond stores (withWords b words) b
 
 -- the first n bytes 0
 unfoldable pub clearedFront : List ℕ → ℕ → List ℕ

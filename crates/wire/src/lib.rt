@@ -3,7 +3,7 @@ ghost use mathlib.Core.Path.{_≡_};
 ghost use mathlib.Core.List.{[]};
 ghost use Rattle.plan.specs.Plan.{seen};
 ghost use Rattle.wire.specs.Lent.{shortNumber, lentOf, usedOf, givenFloat, givenVec, loadedPart, tableOf, planTable, askTable};
-ghost use Rattle.wire.specs.Sent.{argsBefore, planBefore, tablesBefore, treeTablesBefore, treeBefore, askBefore, storedPart, clearedFront, cleared, Sent};
+ghost use Rattle.wire.specs.Sent.{argsBefore, planBefore, tablesBefore, treeTablesBefore, treeBefore, askBefore, storedFront, storedPlan, storedTable, clearedFront, cleared, Sent};
 use plan::Floats;
 use plan::Words;
 use reply::Reply;
@@ -202,14 +202,37 @@ pub fn ask_before(
     )
 }
 
-// The first words of a table of words are stored.
-pub fn store_part(stores: bool, ws: &[u32], n: usize, b: &mut [u8])
-    ensures { λ _. ⌜ now (b .exit) ≡ storedPart stores (now (ws .entry)) n (now (b .entry)) ⌝ }
+// The first n words of a table are stored.
+fn store_front(ws: &[u32], n: usize, b: &mut [u8])
+    ensures { λ _. ⌜ now (b .exit) ≡ storedFront (now (ws .entry)) n (now (b .entry)) ⌝ }
+{
+    if n <= ws.len() {
+        words::store(&ws[..n], b);
+    }
+}
+
+// The plan's words of a call's table.
+pub fn store_plan(stores: bool, ws: &Words, b: &mut [u8])
+    ensures { λ _. ⌜ now (b .exit) ≡ storedPlan stores (now (ws .entry)) (now (b .entry)) ⌝ }
 {
     if stores {
-        if n <= ws.len() {
-            words::store(&ws[..n], b);
-        }
+        store_front(ws, plan::ARGS, b);
+    }
+}
+
+pub fn store_nodes(stores: bool, nw: &[u32; 4599], b: &mut [u8])
+    ensures { λ _. ⌜ now (b .exit) ≡ storedTable stores (now (nw .entry)) (now (b .entry)) ⌝ }
+{
+    if stores {
+        words::store(nw, b);
+    }
+}
+
+pub fn store_order(stores: bool, ow: &[u32; 256], b: &mut [u8])
+    ensures { λ _. ⌜ now (b .exit) ≡ storedTable stores (now (ow .entry)) (now (b .entry)) ⌝ }
+{
+    if stores {
+        words::store(ow, b);
     }
 }
 
