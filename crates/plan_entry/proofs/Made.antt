@@ -23,7 +23,7 @@ use Rattle.plan_entry.specs.Entry.{withPiece, withMaterialWords, withLig
 use Rattle.plan_entry.specs.After.{givenPiece, Made, empty, relent, piece, material, light}
 use Rattle.plan_entry.proofs.Lists.{length-row, length-cutters}
 use Rattle.plan_entry.proofs.Accepts.{Accepted, accepted, taken}
-use Rattle.plan_entry.proofs.Sound.{listOf, Fits, piece-sound, material-sound, light-sound}
+use Rattle.plan_entry.proofs.Sound.{listOf, Fits, piece-lit, material-lit, light-lit}
 use Rattle.plan_entry.proofs.Entered.{placeFor, Placed, placed-for, piece-entered, material-entered}
 use Rattle.plan_entry.proofs.Entered.{light-entered, plan-relent}
 
@@ -167,7 +167,7 @@ good (piece among bytes w m e) =
       size = length-piece among w place ∙ g .size;
       sound =
           subst SoundLit (sym (piece-entered 0 among w bytes (g .size) e))
-          (piece-sound among (planIn w) (givenPiece w place) (g .sound) (fits among w a));
+          (piece-lit among (planIn w) (givenPiece w place) (g .sound) (fits among w a));
     }
 good (material w m e) =
     let g = good m in
@@ -176,7 +176,7 @@ good (material w m e) =
       size = length-material w ∙ g .size;
       sound =
           subst SoundLit (sym (material-entered 0 w (g .size) e))
-          (material-sound (planIn w) (materialAt (seen w) argsRow) (g .sound) (rw (materials-of w) (t .count)));
+          (material-lit (planIn w) (materialAt (seen w) argsRow) (g .sound) (rw (materials-of w) (t .count)));
     }
 good (light w m e) =
     let g = good m in
@@ -186,7 +186,7 @@ good (light w m e) =
       size = length-light w ∙ g .size;
       sound =
           subst SoundLit (sym (light-entered 0 w (g .size) e))
-          (light-sound (planIn w) l (g .sound) (rw (lights-of w) (t .count)) (light-exact l .0 (t .number)));
+          (light-lit (planIn w) l (g .sound) (rw (lights-of w) (t .count)) (light-exact l .0 (t .number)));
     }
 
 pub made-sound : {w : List ℕ} → Made w → solidsOf (planIn w) .number ≡ 0

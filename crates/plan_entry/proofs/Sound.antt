@@ -11,7 +11,7 @@ use Rattle.plan.specs.declared.Material.{Material}
 use Rattle.plan.specs.declared.QuadLight.{QuadLight}
 use Rattle.plan.specs.Plan.{Piece, Plan, withMaterial, withLight}
 use Rattle.plan_test.specs.Tests.{cuttersOf}
-use Rattle.plan_test.specs.Exact.{PieceOk, PlaceIs, PiecesOk, LightOk, SoundLit}
+use Rattle.plan_test.specs.Exact.{PieceOk, PlaceIs, PiecesOk, SoundSolids, LightOk, SoundLit}
 use Rattle.plan_test.proofs.Lists.{cutters-snoc}
 use Rattle.plan_test.proofs.Apart.{places-snoc}
 use Rattle.plan_entry.specs.Entry.{sectionOf}
@@ -40,44 +40,43 @@ pieces-more among m os o s k p =
       places = places-snoc among 0 os o (s .places) (rw zero-add p);
     }
 
-pub piece-sound : (among : Bool) (p : Plan) (o : Piece) → SoundLit p → Fits among p o → SoundLit (withOne among p o)
+pub piece-sound
+    : (among : Bool) (p : Plan) (o : Piece)
+    → SoundSolids p
+    → Fits among p o
+    → SoundSolids (withOne among p o)
 piece-sound true p o s f =
-    let c = s .solids .counts in
+    let c = s .counts in
     record {
-      solids =
+      counts =
           record {
-            counts =
-                record {
-                  materials = c .materials;
-                  planes = simp length-append (omega (arith, f .count));
-                  lights = c .lights;
-                  objects = c .objects;
-                };
-            planes = pieces-more true (length (p .materials)) (p .planes) o (s .solids .planes) (f .piece) (f .place);
-            objects = s .solids .objects;
-            room = rw (cutters-snoc (p .planes) o) (omega (arith, f .room));
+            materials = c .materials;
+            planes = simp length-append (omega (arith, f .count));
+            lights = c .lights;
+            objects = c .objects;
           };
-      lights = s .lights;
+      planes = pieces-more true (length (p .materials)) (p .planes) o (s .planes) (f .piece) (f .place);
+      objects = s .objects;
+      room = rw (cutters-snoc (p .planes) o) (omega (arith, f .room));
     }
 piece-sound false p o s f =
-    let c = s .solids .counts in
+    let c = s .counts in
     record {
-      solids =
+      counts =
           record {
-            counts =
-                record {
-                  materials = c .materials;
-                  planes = c .planes;
-                  lights = c .lights;
-                  objects = simp length-append (omega (arith, f .count));
-                };
-            planes = s .solids .planes;
-            objects =
-                pieces-more false (length (p .materials)) (p .objects) o (s .solids .objects) (f .piece) (f .place);
-            room = rw (cutters-snoc (p .objects) o) (omega (arith, f .room));
+            materials = c .materials;
+            planes = c .planes;
+            lights = c .lights;
+            objects = simp length-append (omega (arith, f .count));
           };
-      lights = s .lights;
+      planes = s .planes;
+      objects = pieces-more false (length (p .materials)) (p .objects) o (s .objects) (f .piece) (f .place);
+      room = rw (cutters-snoc (p .objects) o) (omega (arith, f .room));
     }
+
+pub piece-lit : (among : Bool) (p : Plan) (o : Piece) → SoundLit p → Fits among p o → SoundLit (withOne among p o)
+piece-lit true p o s f = record { solids = piece-sound true p o (s .solids) f; lights = s .lights }
+piece-lit false p o s f = record { solids = piece-sound false p o (s .solids) f; lights = s .lights }
 
 -- a piece's material is present where there are more
 more-materials : (among : Bool) (m n : ℕ) → m ≤ n → (os : List Piece) → PiecesOk among m os → PiecesOk among n os
@@ -94,50 +93,57 @@ more-materials among m n h os s =
           cuts = k .cuts;
         }
 
-pub material-sound : (p : Plan) (m : Material) → SoundLit p → length (p .materials) < 64 → SoundLit (withMaterial p m)
+pub material-sound
+    : (p : Plan) (m : Material)
+    → SoundSolids p
+    → length (p .materials) < 64
+    → SoundSolids (withMaterial p m)
 material-sound p m s h =
-    let c = s .solids .counts in
+    let c = s .counts in
     let n : ℕ = length (p .materials) in
-    let more : n ≤ length (p .materials ++ (m ∷ [])) = simp length-append (omega arith) in
     let all : ℕ = length (p .materials ++ (m ∷ [])) in
+    let more : n ≤ all = simp length-append (omega arith) in
     record {
-      solids =
+      counts =
           record {
-            counts =
-                record {
-                  materials = simp length-append (omega arith);
-                  planes = c .planes;
-                  lights = c .lights;
-                  objects = c .objects;
-                };
-            planes = more-materials true n all more (p .planes) (s .solids .planes);
-            objects = more-materials false n all more (p .objects) (s .solids .objects);
-            room = s .solids .room;
+            materials = simp length-append (omega arith);
+            planes = c .planes;
+            lights = c .lights;
+            objects = c .objects;
           };
-      lights = s .lights;
+      planes = more-materials true n all more (p .planes) (s .planes);
+      objects = more-materials false n all more (p .objects) (s .objects);
+      room = s .room;
     }
 
+pub material-lit : (p : Plan) (m : Material) → SoundLit p → length (p .materials) < 64 → SoundLit (withMaterial p m)
+material-lit p m s h = record { solids = material-sound p m (s .solids) h; lights = s .lights }
+
 pub light-sound
+    : (p : Plan) (l : QuadLight)
+    → SoundSolids p
+    → length (p .lights) < 16
+    → SoundSolids (withLight p l)
+light-sound p l s h =
+    let c = s .counts in
+    record {
+      counts =
+          record {
+            materials = c .materials;
+            planes = c .planes;
+            lights = simp length-append (omega arith);
+            objects = c .objects;
+          };
+      planes = s .planes;
+      objects = s .objects;
+      room = s .room;
+    }
+
+pub light-lit
     : (p : Plan) (l : QuadLight)
     → SoundLit p
     → length (p .lights) < 16
     → LightOk l
     → SoundLit (withLight p l)
-light-sound p l s h k =
-    let c = s .solids .counts in
-    record {
-      solids =
-          record {
-            counts =
-                record {
-                  materials = c .materials;
-                  planes = c .planes;
-                  lights = simp length-append (omega arith);
-                  objects = c .objects;
-                };
-            planes = s .solids .planes;
-            objects = s .solids .objects;
-            room = s .solids .room;
-          };
-      lights = all-snoc LightOk (p .lights) l (s .lights) k;
-    }
+light-lit p l s h k =
+    record { solids = light-sound p l (s .solids) h; lights = all-snoc LightOk (p .lights) l (s .lights) k }

@@ -1,14 +1,15 @@
--- What a loop that fills a list or writes words needs at its start, at a turn and at its end. By induction on the list. Assumes nothing.
-use Prim.Native.Nat.{ℕ, zero, suc, _+_, _-_, _<_, _≤_}
+-- What a loop that fills a list or writes words needs at its start, at a turn and at its end, and what holds of each
+-- member of a list. By induction on the list. Assumes nothing.
+use Prim.Native.Nat.{ℕ, zero, suc, _+_, _<_, _≤_}
 use mathlib.Core.Path.{_≡_, refl, sym, _∙_, ap}
-use mathlib.Core.List.{List, [], _∷_, _++_, append-assoc}
+use mathlib.Core.List.{List, [], _∷_, _++_}
 use native.Mathlib.Numerals.{add-one}
-use native.Mathlib.Nat.{add-zero, sub-zero}
+use native.Mathlib.Nat.{add-zero}
 use native.Mathlib.Omega.{arith}
-use lib.ListN.{length, getD, set, take, drop, drop-of-length-le}
+use lib.ListN.{length, getD, set, take, drop}
 use lib.Seq.{drop-cons, take-suc-set, take-all}
 use Rattle.words.specs.Lists.{listFrom, All}
-use Rattle.words.specs.Words.{wordAt, wordsOf, putWord, putWords}
+use Rattle.words.specs.Words.{putWord, putWords}
 
 module _ {A : Type 0} (f : ℕ → A) where
   pub from-snoc : (a n : ℕ) → listFrom f a (suc n) ≡ listFrom f a n ++ (f (a + n) ∷ [])
@@ -28,7 +29,12 @@ module _ {A : Type 0} (f : ℕ → A) where
   unfolding listFrom
   fill-none l = refl
 
-  pub fill-more : (l : List A) (i : ℕ) (v : A) → i < length l → v ≡ f i → take i l ≡ listFrom f 0 i → take (i + 1) (set l i v) ≡ listFrom f 0 (i + 1)
+  pub fill-more
+      : (l : List A) (i : ℕ) (v : A)
+      → i < length l
+      → v ≡ f i
+      → take i l ≡ listFrom f 0 i
+      → take (i + 1) (set l i v) ≡ listFrom f 0 (i + 1)
   fill-more l i v h e p =
       let z : 0 + i ≡ i = omega arith in
       rw (add-one, take-suc-set l i v h, from-snoc 0 i, z, p, e)
@@ -40,7 +46,10 @@ module _ {A : Type 0} (f : ℕ → A) where
 
 -- two lists of functions of the index that agree, and what such a list holds
 module _ {A : Type 0} where
-  pub from-same : (f g : ℕ → A) (a b n : ℕ) → ((k : ℕ) → k < n → f (a + k) ≡ g (b + k)) → listFrom f a n ≡ listFrom g b n
+  pub from-same
+      : (f g : ℕ → A) (a b n : ℕ)
+      → ((k : ℕ) → k < n → f (a + k) ≡ g (b + k))
+      → listFrom f a n ≡ listFrom g b n
   unfolding listFrom
   from-same f g a b zero h = refl
   from-same f g a b (suc n) h =
@@ -78,11 +87,10 @@ module _ {A : Type 0} where
   all-snoc P [] x s p = (p, tt)
   all-snoc P (y ∷ xs) x s p = (s .0, all-snoc P xs x (s .1) p)
 
--- a loop that writes words from 0 on: a turn, and the end
-pub puts-step : (b ws : List ℕ) (i : ℕ) → i < length ws → putWords b i (drop i ws) ≡ putWords (putWord b i (getD ws i 0)) (i + 1) (drop (i + 1) ws)
+-- a turn of a loop that writes words from 0 on
+pub puts-step
+    : (b ws : List ℕ) (i : ℕ)
+    → i < length ws
+    → putWords b i (drop i ws) ≡ putWords (putWord b i (getD ws i 0)) (i + 1) (drop (i + 1) ws)
 unfolding putWords
 puts-step b ws i h = rw (drop-cons ws i 0 h, add-one)
-
-pub puts-none : (b ws : List ℕ) (i : ℕ) → length ws ≤ i → putWords b i (drop i ws) ≡ b
-unfolding putWords
-puts-none b ws i h = rw (drop-of-length-le ws h)

@@ -1,4 +1,5 @@
--- A run of stores: a loop that makes it, and what is read of it, in the run and outside. By induction on the run. Assumes nothing.
+-- A run of stores: a loop that makes it, and what is read of it, in the run and outside. By induction on the run.
+-- Assumes nothing.
 use Prim.Native.Nat.{ℕ, zero, suc, _+_, _<_, _≤_}
 use mathlib.Core.Path.{_≡_, refl, _∙_}
 use mathlib.Core.Logic.{_⊎_, ⊎-elim, inl, inr}
