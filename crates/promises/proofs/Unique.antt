@@ -1,4 +1,4 @@
--- Any two answers that a public call's promise allows are equal: each promise is one or more equations. Assumes nothing.
+-- Any two answers that a public call's promise allows are equal: a promise is one or more equations. Assumes nothing.
 use mathlib.Core.Path.{_≡_, sym, _∙_}
 use mathlib.Core.List.{List}
 use Prim.Native.Nat.{ℕ}
