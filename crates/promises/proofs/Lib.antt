@@ -1,0 +1,4 @@
+pub mod Rows
+pub mod Standing
+pub mod Unique
+pub mod Lowest

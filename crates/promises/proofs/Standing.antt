@@ -1,0 +1,145 @@
+-- A query or `dist_mat` by the tree that is not refused searches an accepted tree: by exact tests. Assumes nothing.
+use Prim.Native.Nat.{ℕ, zero, suc, _≤_}
+use native.Mathlib.Omega.{arith}
+use mathlib.Core.Path.{_≡_, refl, sym, _∙_, subst}
+use mathlib.Core.Logic.{_⊎_, inl, inr, ⊎-elim}
+use mathlib.Core.Bool.{Bool, true, false, cond, _&&_, and-eq-true-iff}
+use mathlib.Core.List.{List, [], _∷_}
+use lib.ListN.{length}
+use lib.Dec.{T, eqb·suc-zero}
+use lib.Ieee.{Float, ofBits, neg, lt, le, eq}
+use denote.Floats.{passes}
+use Rattle.scalar.specs.Ranges.{between, magnitude}
+use Rattle.vec.specs.declared.Vec3.{Vec3}
+use Rattle.refusals.specs.Refusals.{unless, lower}
+use Rattle.refusals.specs.Ranges.{greatest, farthest, within}
+use Rattle.refusals.proofs.Lowest.{unless-zero, lower-zero}
+use Rattle.plan.specs.declared.DistHit.{DistHit}
+use Rattle.plan.specs.Sections.{tableWords, objects}
+use Rattle.plan.specs.Plan.{Piece, countOf, planOf}
+use Rattle.plan.specs.Nearest.{hitOf, closer, nearest, nothing}
+use Rattle.plan_test.specs.Tests.{objectsNumber, solidsOf}
+use Rattle.plan_test.proofs.Exact.{objects-exact, solids-exact}
+use Rattle.float_order.proofs.Order.{le-right, lt-left, number-eq}
+use Rattle.bvh_boxes.specs.Boxes.{boxesOf}
+use Rattle.bvh_boxes.proofs.Lists.{boxes-length, box-count}
+use Rattle.bvh_rules.specs.Nodes.{nodesOf, orderOf}
+use Rattle.bvh_rules.specs.Rules.{Tree, Accepted, MeetsRules}
+use Rattle.bvh_rules.proofs.Lists.{nodes-length}
+use Rattle.bvh_rules.proofs.Exact.{standing-exact}
+use Rattle.bvh_search.specs.declared.Searched.{Searched}
+use Rattle.bvh_search.specs.Search.{searched}
+use Rattle.bvh_search.specs.Field.{hitBy, fieldBy}
+use Rattle.bvh_search.specs.Demand.{Demand}
+use Rattle.bvh_search.proofs.Demand.{demand-three, search-empty}
+use Rattle.reply.specs.declared.Reply.{Reply}
+use Rattle.reply.specs.Reply.{refusedReply, replyOf}
+use Rattle.bemitondry.specs.Calls.{argVec, argFloat, treeNumber, queryNumber, queryBound, distMatNumber}
+
+-- the tree that a call's table holds for its plan's objects
+abbrev pub AcceptedIn : List ℕ → List Float → Tree → Type 0
+AcceptedIn w f t = Accepted (nodesOf w) (nodesOf f) (orderOf w) (boxesOf (planOf w f)) t
+
+-- with no objects the bound comes back; else one accepted tree stands, and the answer meets the demand on it
+abbrev pub Stood : List ℕ → List Float → Vec3 → DistHit → Searched → Type 0
+Stood w f p bound a =
+    ((countOf objects w ≡ 0) × (a ≡ searched bound 0 0 true))
+    ⊎ ((t : Tree) × (AcceptedIn w f t × Demand (orderOf w) w f p t bound a))
+
+finite-number : (x : Float) → magnitude x greatest ≡ true → T (eq x x)
+unfolding magnitude between
+finite-number x e =
+    let low : Bool = le (neg greatest) x in
+    let p = and-eq-true-iff low (le x greatest) .0 e in
+    subst T (sym (number-eq x)) (le-right (neg greatest) x (passes low (p .0)))
+
+-- ---- a search from a bound that is a number, where the standing tree gets 0
+module _ (w : List ℕ) (f : List Float) (long : length w ≡ tableWords) where
+  stood
+      : length (planOf w f .objects) ≤ 256
+      → treeNumber 1 w f ≡ 0
+      → (p : Vec3) (bound : DistHit)
+      → T (eq (bound .d) (bound .d))
+      → Stood w f p bound (hitBy 1 w f p bound)
+  unfolding hitBy treeNumber MeetsRules
+  stood many e p bound n =
+      let bs = boxesOf (planOf w f) in
+      let few : length bs ≤ 256 = omega (arith, boxes-length (planOf w f)) in
+      let nodes = nodes-length w long in
+      ⊎-elim
+      (λ none.
+      let z : countOf objects w ≡ 0 = sym (box-count w f) ∙ none in
+      inl (z, search-empty (nodesOf w) (nodesOf f) (orderOf w) w f p bound z))
+      (λ t.
+      inr (
+        t .0,
+        (
+          t .1,
+          demand-three (nodesOf w) (nodesOf f) (orderOf w) w f bs (t .0) nodes few (box-count w f) (t .1) p bound n,
+        ),
+      ))
+      (standing-exact (nodesOf w) (nodesOf f) (orderOf w) bs nodes few .0 e)
+
+-- ---- the planes' nearest is a number to start from
+closer-number : (best hit : DistHit) → T (eq (best .d) (best .d)) → T (eq (closer best hit .d) (closer best hit .d))
+unfolding closer
+closer-number best hit n = go (lt (hit .d) (best .d)) refl
+  where
+    go : (b : Bool) → lt (hit .d) (best .d) ≡ b → T (eq (cond b hit best .d) (cond b hit best .d))
+    go true e = subst T (sym (number-eq (hit .d))) (lt-left (hit .d) (best .d) (passes (lt (hit .d) (best .d)) e))
+    go false e = n
+
+nearest-number
+    : (os : List Piece) (p : Vec3) (best : DistHit)
+    → T (eq (best .d) (best .d))
+    → T (eq (nearest os p best .d) (nearest os p best .d))
+unfolding nearest
+nearest-number [] p best n = n
+nearest-number (x ∷ os) p best n = nearest-number os p (closer best (hitOf x p)) (closer-number best (hitOf x p) n)
+
+nothing-number : T (eq (nothing .d) (nothing .d))
+unfolding eq ofBits
+nothing-number = tt
+
+-- ---- the calls
+-- what the objects' search starts from in `dist_mat`: the planes in order
+abbrev pub planesHit : List ℕ → List Float → Vec3 → DistHit
+planesHit w f p = nearest (planOf w f .planes) p nothing
+
+-- of the point and the bound in the arguments, where the call's number is 0
+module _ (before : ℕ) (w : List ℕ) (f : List Float) (long : length w ≡ tableWords) where
+  pub query-stands
+      : lower (queryNumber before w f) (treeNumber 1 w f) ≡ 0
+      → Stood w f (argVec f 0) (queryBound w f) (hitBy 1 w f (argVec f 0) (queryBound w f))
+  unfolding queryNumber
+  query-stands answered =
+      let near = within (argVec f 0) farthest in
+      let finite = magnitude (argFloat f 3) greatest in
+      let number = objectsNumber (planOf w f) in
+      let a = lower-zero (queryNumber before w f) (treeNumber 1 w f) .0 answered in
+      let b = lower-zero before (lower (unless 1 (near && finite)) number) .0 (a .0) in
+      let c = lower-zero (unless 1 (near && finite)) number .0 (b .1) in
+      let d = and-eq-true-iff near finite .0 (unless-zero 0 (near && finite) .0 (c .0)) in
+      let few = objects-exact (planOf w f) .0 (c .1) .counts .objects in
+      stood w f long few (a .1) (argVec f 0) (queryBound w f) (finite-number (argFloat f 3) (d .1))
+
+  pub dist-mat-stands
+      : lower (distMatNumber before w f) (treeNumber 1 w f) ≡ 0
+      → (fieldBy 1 w f (argVec f 0) ≡ hitBy 1 w f (argVec f 0) (planesHit w f (argVec f 0)) .hit)
+      × Stood w f (argVec f 0) (planesHit w f (argVec f 0)) (hitBy 1 w f (argVec f 0) (planesHit w f (argVec f 0)))
+  unfolding distMatNumber fieldBy
+  dist-mat-stands answered =
+      let near = within (argVec f 0) farthest in
+      let number = solidsOf (planOf w f) .number in
+      let a = lower-zero (distMatNumber before w f) (treeNumber 1 w f) .0 answered in
+      let b = lower-zero before (lower (unless 1 near) number) .0 (a .0) in
+      let c = lower-zero (unless 1 near) number .0 (b .1) in
+      let few = solids-exact (planOf w f) .0 (c .1) .counts .objects in
+      let n = nearest-number (planOf w f .planes) (argVec f 0) nothing nothing-number in
+      (refl, stood w f long few (a .1) (argVec f 0) (planesHit w f (argVec f 0)) n)
+
+-- a reply whose number is 0 was not refused, and is the answer
+pub not-refused : (n : ℕ) (r : Reply) → replyOf n r .number ≡ 0 → (n ≡ 0) × (replyOf n r ≡ r)
+unfolding replyOf refusedReply
+not-refused zero r e = (refl, refl)
+not-refused (suc n) r e = let z : suc n ≡ 0 = rw (eqb·suc-zero n) at e in absurd (omega arith)

@@ -1,0 +1,35 @@
+-- Any two answers that a public call's promise allows are equal: a promise is one or more equations. Assumes nothing.
+use mathlib.Core.Path.{_≡_, sym, _∙_}
+use mathlib.Core.List.{List}
+use Prim.Native.Nat.{ℕ}
+use lib.Ieee.{Float}
+use Rattle.plan.specs.Plan.{Plan}
+use Rattle.reply.specs.declared.Reply.{Reply}
+use Rattle.bemitondry.specs.Entries.{EntersTable}
+use Rattle.bemitondry.specs.Trees.{BuildLeaves, OfferLeaves}
+use Rattle.wire.specs.Sent.{Sent}
+
+-- a call that asks: its reply is rootReply, acosReply, primDistReply, primBoundsReply, queryReply or distMatReply
+pub only : {A : Type 0} {is r s : A} → r ≡ is → s ≡ is → r ≡ s
+only p q = p ∙ sym q
+
+-- ---- the calls that leave tables: the reply, and each table
+pub enters-only
+    : {number index : ℕ} {w left : List ℕ} {r s : Reply} {v u : List ℕ}
+    → EntersTable number index w left r v → EntersTable number index w left s u → (r ≡ s) × (v ≡ u)
+enters-only a b = (only (a .reply) (b .reply), only (a .table) (b .table))
+
+pub build-only
+    : {before : ℕ} {p : Plan} {r s : Reply} {n m o q : List ℕ}
+    → BuildLeaves before p r n o → BuildLeaves before p s m q → (r ≡ s) × ((n ≡ m) × (o ≡ q))
+build-only a b = (only (a .reply) (b .reply), (only (a .nodes) (b .nodes), only (a .order) (b .order)))
+
+pub offer-only
+    : {before : ℕ} {w : List ℕ} {f : List Float} {r s : Reply} {n m o q : List ℕ}
+    → OfferLeaves before w f r n o → OfferLeaves before w f s m q → (r ≡ s) × ((n ≡ m) × (o ≡ q))
+offer-only a b = (only (a .reply) (b .reply), (only (a .nodes) (b .nodes), only (a .order) (b .order)))
+
+-- ---- what is sent: the number, and the bytes of `out`
+pub sent-only
+    : {r : Reply} {out : List ℕ} {n m : ℕ} {a b : List ℕ} → Sent r out n a → Sent r out m b → (n ≡ m) × (a ≡ b)
+sent-only x y = (only (x .number-is) (y .number-is), only (x .out-is) (y .out-is))
