@@ -23,27 +23,6 @@ abbrev μ-loop : tie.MeasureT-loop
 loop-holds : tie.Need-loop-holds Inv-loop μ-loop
 loop-holds c = (search needs, search needs, fill-none (frontWord _ _ _) (c .before .args .to .now))
 
-add-word-in : tie.Need-add-word-in Inv-loop μ-loop
-add-word-in c = search needs
-
-word-in-requires : tie.Need-word-in-requires Inv-loop μ-loop
-word-in-requires c κs = search needs
-
-word-if-requires : tie.Need-word-if-requires Inv-loop μ-loop
-word-if-requires c κs = search needs
-
-mul-to : tie.Need-mul-to Inv-loop μ-loop
-mul-to c = search needs
-
-slice-write-to : tie.Need-slice-write-to Inv-loop μ-loop
-slice-write-to c = search needs
-
-add-i : tie.Need-add-i Inv-loop μ-loop
-add-i c = search needs
-
-loop-less : tie.Need-loop-less Inv-loop μ-loop
-loop-less c = search needs
-
 loop-again : tie.Need-loop-again Inv-loop μ-loop
 unfolding frontWord
 loop-again c =
@@ -52,9 +31,6 @@ loop-again c =
     let e = c .word-if .ensures ∙ ap (λ (x : ℕ). cond (ltb (l .i) (s .k)) x 0) (c .before .word-in .ensures) in
     (search needs, search needs, fill-more (frontWord (s .ws .now) (s .from) (s .k)) (l .to) (l .i) _ (search needs) e (l .inv .2))
 
-same-length : tie.Need-same-length Inv-loop μ-loop
-same-length c = search needs
-
 returns : tie.Need-returns Inv-loop μ-loop
 returns c = let l = c .before .loop in fill-all (frontWord _ _ _) (l .to) (l .i) _ (l .inv .1) (search needs) (search needs) (l .inv .2)
 
@@ -62,16 +38,6 @@ pub copy-front-spec : {M : Type 1} → statement M
 copy-front-spec =
     tie.close
     (tie.spec
-    Inv-loop
-    μ-loop
-    loop-holds
-    add-word-in
-    word-in-requires
-    word-if-requires
-    mul-to
-    slice-write-to
-    add-i
-    loop-less
-    loop-again
-    same-length
-    returns)
+    Inv-loop μ-loop loop-holds (λ c. search needs) (λ c κs. search needs) (λ c κs. search needs)
+    (λ c. search needs) (λ c. search needs) (λ c. search needs) (λ c. search needs) loop-again
+    (λ c. search needs) returns)

@@ -1,15 +1,16 @@
+-- `viewer::build_stores` meets its contract: each return is a case of `buildStores`. Assumes nothing.
+use borrow.Author.Tests.{eq-eqb, ne-eqb}
+use Rattle.viewer.specs.Trees.{buildStores}
 use Rattle.viewer.proofs.build_stores.Statement.{statement}
 use Rattle.viewer.proofs.build_stores.Tie as tie
-use Rattle.viewer.proofs.build_stores.Reads as reads
-use Rattle.viewer.proofs.build_stores.Lts as lts
 
--- src/lib.rt:205:9
 returns : tie.Need-returns
-returns c = ?
+unfolding buildStores
+returns c = simp (eq-eqb _ 0 (c .if1 .taken))
 
--- src/lib.rt:201:1
 returns-2 : tie.Need-returns-2
-returns-2 c = ?
+unfolding buildStores
+returns-2 c = simp (ne-eqb _ 0 (c .if1 .left))
 
 pub build-stores-spec : {M : Type 1} → statement M
 build-stores-spec = tie.close (tie.spec returns returns-2)
