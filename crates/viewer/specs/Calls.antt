@@ -10,7 +10,7 @@ use Rattle.plan.specs.Plan.{seen}
 use Rattle.reply.specs.declared.Reply.{Reply}
 use Rattle.wire.specs.Lent.{lentOf, givenFloat, givenVec, askTable}
 use Rattle.wire.specs.Sent.{argsBefore, askBefore}
-use Rattle.bemitondry.specs.Calls.{rootReply, acosReply, primDistReply, primBoundsReply}
+use Rattle.bemitondry_values.specs.Values.{rootReply, acosReply, primDistReply, primBoundsReply}
 
 -- ---- calls on arguments alone; out is the length of `out`
 unfoldable pub rootLent : List ℕ → ℕ → Reply

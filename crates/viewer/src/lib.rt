@@ -13,7 +13,7 @@ pub extern "C" fn viewer_root(args: &[u8], out: &mut [u8]) -> u32
 {
     let n = wire::args_before(4, args.len(), out.len());
     let a = wire::lent(args, 4);
-    wire::send(bemitondry::root(n, wire::float_at(a, 0)), out)
+    wire::send(bemitondry_values::root(n, wire::float_at(a, 0)), out)
 }
 
 #[no_mangle]
@@ -22,7 +22,7 @@ pub extern "C" fn viewer_acos(args: &[u8], out: &mut [u8]) -> u32
 {
     let n = wire::args_before(4, args.len(), out.len());
     let a = wire::lent(args, 4);
-    wire::send(bemitondry::acos(n, wire::float_at(a, 0)), out)
+    wire::send(bemitondry_values::acos(n, wire::float_at(a, 0)), out)
 }
 
 #[no_mangle]
@@ -32,7 +32,7 @@ pub extern "C" fn viewer_prim_dist(args: &[u8], out: &mut [u8]) -> u32
 {
     let n = wire::args_before(48, args.len(), out.len());
     let a = wire::lent(args, 48);
-    let r = bemitondry::prim_dist(
+    let r = bemitondry_values::prim_dist(
         n,
         words::word(a, 0),
         wire::vec_at(a, 1),
@@ -51,7 +51,7 @@ pub extern "C" fn viewer_prim_bounds(args: &[u8], out: &mut [u8]) -> u32
 {
     let n = wire::args_before(36, args.len(), out.len());
     let a = wire::lent(args, 36);
-    let r = bemitondry::prim_bounds(
+    let r = bemitondry_values::prim_bounds(
         n,
         words::word(a, 0),
         wire::vec_at(a, 1),

@@ -1,8 +1,8 @@
--- `bemitondry::prim_dist` meets its contract, by those of its calls. Assumes nothing.
-use Rattle.bemitondry.specs.Calls.{primDistReply}
+-- `bemitondry_values::prim_dist` meets its contract, by those of its calls. Assumes nothing.
+use Rattle.bemitondry_values.specs.Values.{primDistReply}
 use borrow.Author.Needs.{needs}
-use Rattle.bemitondry.proofs.prim_dist.Statement.{statement}
-use Rattle.bemitondry.proofs.prim_dist.Tie as tie
+use Rattle.bemitondry_values.proofs.prim_dist.Statement.{statement}
+use Rattle.bemitondry_values.proofs.prim_dist.Tie as tie
 
 returns : tie.Need-returns
 unfolding primDistReply

@@ -1,8 +1,8 @@
--- `bemitondry::acos` meets its contract, by those of its calls. Assumes nothing.
-use Rattle.bemitondry.specs.Calls.{acosReply}
+-- `bemitondry_values::acos` meets its contract, by those of its calls. Assumes nothing.
+use Rattle.bemitondry_values.specs.Values.{acosReply}
 use borrow.Author.Needs.{needs}
-use Rattle.bemitondry.proofs.acos.Statement.{statement}
-use Rattle.bemitondry.proofs.acos.Tie as tie
+use Rattle.bemitondry_values.proofs.acos.Statement.{statement}
+use Rattle.bemitondry_values.proofs.acos.Tie as tie
 
 returns : tie.Need-returns
 unfolding acosReply

@@ -1,10 +1,10 @@
--- `bemitondry::float_reply` meets its contract: the float where the number is 0. Assumes nothing.
+-- `bemitondry_values::float_reply` meets its contract: the float where the number is 0. Assumes nothing.
 use borrow.Author.Tests.{eq-eqb, ne-eqb}
 use Rattle.reply.specs.Reply.{replyOf}
-use Rattle.bemitondry.specs.Calls.{floatReply}
+use Rattle.bemitondry_values.specs.Values.{floatReply}
 use borrow.Author.Needs.{needs}
-use Rattle.bemitondry.proofs.float_reply.Statement.{statement}
-use Rattle.bemitondry.proofs.float_reply.Tie as tie
+use Rattle.bemitondry_values.proofs.float_reply.Statement.{statement}
+use Rattle.bemitondry_values.proofs.float_reply.Tie as tie
 
 returns : tie.Need-returns
 unfolding floatReply replyOf

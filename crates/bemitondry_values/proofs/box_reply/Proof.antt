@@ -1,10 +1,10 @@
--- `bemitondry::box_reply` meets its contract: a box where the number is 0, and none of a plane. Assumes nothing.
+-- `bemitondry_values::box_reply` meets its contract: a box where the number is 0, and none of a plane. Assumes nothing.
 use borrow.Author.Tests.{eq-eqb, ne-eqb}
 use Rattle.reply.specs.Reply.{replyOf}
-use Rattle.bemitondry.specs.Calls.{boxReply}
+use Rattle.bemitondry_values.specs.Values.{boxReply}
 use borrow.Author.Needs.{needs}
-use Rattle.bemitondry.proofs.box_reply.Statement.{statement}
-use Rattle.bemitondry.proofs.box_reply.Tie as tie
+use Rattle.bemitondry_values.proofs.box_reply.Statement.{statement}
+use Rattle.bemitondry_values.proofs.box_reply.Tie as tie
 
 returns : tie.Need-returns
 unfolding boxReply replyOf

@@ -1,8 +1,8 @@
--- `bemitondry::prim_bounds` meets its contract, by those of its calls. Assumes nothing.
-use Rattle.bemitondry.specs.Calls.{primBoundsReply}
+-- `bemitondry_values::prim_bounds` meets its contract, by those of its calls. Assumes nothing.
+use Rattle.bemitondry_values.specs.Values.{primBoundsReply}
 use borrow.Author.Needs.{needs}
-use Rattle.bemitondry.proofs.prim_bounds.Statement.{statement}
-use Rattle.bemitondry.proofs.prim_bounds.Tie as tie
+use Rattle.bemitondry_values.proofs.prim_bounds.Statement.{statement}
+use Rattle.bemitondry_values.proofs.prim_bounds.Tie as tie
 
 returns : tie.Need-returns
 unfolding primBoundsReply

@@ -1,8 +1,8 @@
--- `bemitondry::root` meets its contract, by those of its calls. Assumes nothing.
-use Rattle.bemitondry.specs.Calls.{rootReply}
+-- `bemitondry_values::root` meets its contract, by those of its calls. Assumes nothing.
+use Rattle.bemitondry_values.specs.Values.{rootReply}
 use borrow.Author.Needs.{needs}
-use Rattle.bemitondry.proofs.root.Statement.{statement}
-use Rattle.bemitondry.proofs.root.Tie as tie
+use Rattle.bemitondry_values.proofs.root.Statement.{statement}
+use Rattle.bemitondry_values.proofs.root.Tie as tie
 
 returns : tie.Need-returns
 unfolding rootReply
