@@ -1,4 +1,5 @@
--- What a build or an offer replies and leaves, case by case of the number; a tree that stands has at most 511 nodes, so its size fits a word. Assumes nothing.
+-- What a build or an offer replies and leaves, case by case of the number; a tree that stands has at most 511 nodes, so
+-- its size fits a word. Assumes nothing.
 use Prim.Native.Nat.{ℕ, _+_, _*_, _≤_, _<_}
 use mathlib.Core.Path.{_≡_, refl, sym, _∙_, ap}
 use mathlib.Core.Bool.{Bool, true, false, cond}

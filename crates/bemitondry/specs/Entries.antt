@@ -1,4 +1,5 @@
--- "A piece and its cutters enter together or nothing changes." What each entry replies, and the table that it leaves. Definitions only.
+-- "A piece and its cutters enter together or nothing changes." What each entry replies, and the table that it leaves.
+-- Definitions only.
 use Prim.Native.Nat.{ℕ}
 use mathlib.Core.Path.{_≡_}
 use mathlib.Core.Bool.{Bool, cond}
@@ -12,7 +13,8 @@ use Rattle.plan_test.specs.Numbers.{materialNumber, lightNumber}
 use Rattle.plan_test.specs.Tests.{solidsOf}
 use Rattle.plan_entry.specs.declared.Added.{Added}
 use Rattle.plan_entry.specs.declared.Added.the-variants.{Refused, Done}
-use Rattle.plan_entry.specs.Entry.{argCuts, sectionOf, pieceNumber, recordNumber, newPlace, withPiece, withMaterialWords, withLightWords}
+use Rattle.plan_entry.specs.Entry.{argCuts, sectionOf, pieceNumber, recordNumber, newPlace}
+use Rattle.plan_entry.specs.Entry.{withPiece, withMaterialWords, withLightWords}
 use Rattle.reply.specs.declared.Reply.{Reply}
 use Rattle.reply.specs.Reply.{refusedReply, oneWord, replyOf}
 
@@ -40,7 +42,8 @@ abbrev pub pieceLeft : Bool → List ℕ → List Float → List ℕ
 pieceLeft among w f = withPiece among w (newPlace among (solidsOf (planOf w f)) (argCuts w))
 
 abbrev pub MaterialEnters : ℕ → List ℕ → List Float → Reply → List ℕ → Type 0
-MaterialEnters before w f r w′ = EntersTable (materialEntry before w f) (countOf materials w) w (withMaterialWords w) r w′
+MaterialEnters before w f r w′ =
+    EntersTable (materialEntry before w f) (countOf materials w) w (withMaterialWords w) r w′
 
 abbrev pub LightEnters : ℕ → List ℕ → List Float → Reply → List ℕ → Type 0
 LightEnters before w f r w′ = EntersTable (lightEntry before w f) (countOf lights w) w (withLightWords w) r w′

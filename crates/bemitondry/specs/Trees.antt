@@ -1,5 +1,6 @@
--- Build and offer, the calls that make a tree stand: "with no objects they send 0 and no nodes, and leave both tables zero. An accepted offer copies the
--- tree's words and the order, and zeroes what lies past them. A build that ends in 7 leaves node and order tables all zero." Definitions only.
+-- Build and offer, the calls that make a tree stand: "with no objects they send 0 and no nodes, and leave both tables
+-- zero. An accepted offer copies the tree's words and the order, and zeroes what lies past them. A build that ends in 7
+-- leaves node and order tables all zero." Definitions only.
 use Prim.Native.Nat.{ℕ, _+_, _*_}
 use mathlib.Core.Path.{_≡_}
 use mathlib.Core.Bool.{Bool, cond}
@@ -9,14 +10,14 @@ use lib.Dec.{ltb, eqb}
 use lib.Ieee.{Float}
 use Rattle.words.specs.Lists.{listFrom}
 use Rattle.refusals.specs.Refusals.{tooDeep, unless, lower}
-use Rattle.plan.specs.Sections.{nodesFirst, orderFirst}
+use Rattle.plan.specs.Sections.{nodesFirst, orderFirst, nodesWords, orderPlaces}
 use Rattle.plan.specs.Records.{wordOf}
 use Rattle.plan.specs.Plan.{Plan, planOf}
 use Rattle.plan_test.specs.Tests.{objectsNumber}
 use Rattle.bvh_boxes.specs.Boxes.{boxesOf}
 use Rattle.bvh_rules.specs.declared.Sub.{Sub}
 use Rattle.bvh_rules.specs.declared.Sub.the-variants.{Bad, Good}
-use Rattle.bvh_rules.specs.Nodes.{nodesOf, orderOf, nodesWords, orderPlaces}
+use Rattle.bvh_rules.specs.Nodes.{nodesOf, orderOf}
 use Rattle.bvh_rules.specs.Check.{judgeOf, offeredNumber}
 use Rattle.bvh_build.specs.Tables.{sizeOf, lowEnough, nodesWith, orderWith}
 use Rattle.reply.specs.declared.Reply.{Reply}

@@ -1,4 +1,5 @@
-// The public calls on loaded tables: each tests what it is given, and replies. `before` is a number that applies already; `ws` and `fs` are a call's table.
+// The public calls on loaded tables: each tests what it is given, and replies. `before` is a number that applies
+// already; `ws` and `fs` are a call's table.
 ghost use mathlib.Core.Path.{_≡_};
 ghost use mathlib.Core.Bool.{cond};
 ghost use lib.ListN.{length, replicate};
@@ -6,12 +7,13 @@ ghost use Rattle.words.specs.Lists.{listFrom};
 ghost use Rattle.plan.specs.Plan.{planOf};
 ghost use Rattle.bemitondry.specs.Entries.{addedReply, MaterialEnters, LightEnters, PieceEnters};
 ghost use Rattle.bemitondry.specs.Trees.{BuildLeaves, sizeIn, frontWord, judgedTree, offeredTree, OfferLeaves};
-ghost use Rattle.bemitondry.specs.Calls.{foundReply, treeNumber, queryNumber, queryReply, distMatNumber, distMatReply};
-use bvh_rules::Nodes;
-use bvh_rules::Order;
+ghost use Rattle.bemitondry.specs.Calls.{foundReply, treeNumber, queryNumber, queryReply, distMatNumber};
+ghost use Rattle.bemitondry.specs.Calls.{distMatReply};
 use bvh_rules::Sub;
 use plan::DistHit;
 use plan::Floats;
+use plan::Nodes;
+use plan::Order;
 use plan::Words;
 use plan_entry::Added;
 use reply::Reply;
@@ -139,7 +141,8 @@ fn clear(ws: &mut [u32])
 
 // The tree of the plan's objects, in tables of its own; where it is not built or is too deep they are all zero.
 pub fn build(before: u32, ws: &Words, fs: &Floats, nw: &mut Nodes, ow: &mut Order) -> Reply
-    ensures { λ r. ⌜ BuildLeaves before (planOf (now (ws .entry)) (now (fs .entry))) r (now (nw .exit)) (now (ow .exit)) ⌝ }
+    ensures { λ r. ⌜ BuildLeaves before (planOf (now (ws .entry)) (now (fs .entry))) r
+        (now (nw .exit)) (now (ow .exit)) ⌝ }
 {
     clear(nw);
     clear(ow);
@@ -195,7 +198,8 @@ fn offered_number(s: Sub, ws: &Words, fs: &Floats) -> u32
     bvh_rules::refused_number(ws, fs)
 }
 
-// The tree offered as the table's nodes and order: where it is accepted, its words in tables of their own with zeros past them; else zeros.
+// The tree offered as the table's nodes and order: where it is accepted, its words in tables of their own with zeros
+// past them; else zeros.
 pub fn offer(before: u32, ws: &Words, fs: &Floats, nw: &mut Nodes, ow: &mut Order) -> Reply
     ensures { λ r. ⌜ OfferLeaves before (now (ws .entry)) (now (fs .entry)) r (now (nw .exit)) (now (ow .exit)) ⌝ }
 {

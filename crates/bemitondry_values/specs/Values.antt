@@ -1,6 +1,6 @@
 -- What each public call on single values replies. before is a number that applies already. Definitions only.
 use Prim.Native.Nat.{ℕ}
-use lib.Ieee.{Float, binary32, toBits}
+use lib.Ieee.{Float}
 use Rattle.root.specs.Root.{rootOf}
 use Rattle.scalar.specs.F32.{f1}
 use Rattle.scalar.specs.Ranges.{magnitude}
@@ -16,17 +16,16 @@ use Rattle.refusals.specs.Refusals.{badNumber, wrongList, unless, lower}
 use Rattle.refusals.specs.Ranges.{greatest, farthest, upTo, within}
 use Rattle.refusals.specs.Prims.{primNumber}
 use Rattle.reply.specs.declared.Reply.{Reply}
-use Rattle.reply.specs.Reply.{refusedReply, doneReply, oneWord, replyOf}
+use Rattle.reply.specs.Reply.{bits, refusedReply, doneReply, oneWord, replyOf}
 
 -- ---- answers
-abbrev pub bits : Float → ℕ
-bits x = toBits binary32 x
-
 unfoldable pub floatReply : ℕ → Float → Reply
 floatReply n x = replyOf n (oneWord (bits x))
 
 abbrev pub boxWords : Aabb → Reply
-boxWords b = doneReply (bits (b .lo .x)) (bits (b .lo .y)) (bits (b .lo .z)) (bits (b .hi .x)) (bits (b .hi .y)) (bits (b .hi .z)) 0 0
+boxWords b =
+    doneReply (bits (b .lo .x)) (bits (b .lo .y)) (bits (b .lo .z))
+    (bits (b .hi .x)) (bits (b .hi .y)) (bits (b .hi .z)) 0 0
 
 -- a plane has no box, and gets 5
 unfoldable pub boxReply : ℕ → Bounds → Reply

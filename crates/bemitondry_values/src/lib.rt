@@ -1,7 +1,9 @@
-// The public calls on single values: each tests what it is given, and replies. `before` is a number that applies already.
+// The public calls on single values: each tests what it is given, and replies. `before` is a number that applies
+// already.
 ghost use mathlib.Core.Path.{_≡_};
 ghost use Rattle.refusals.specs.Prims.{shapeOf};
-ghost use Rattle.bemitondry_values.specs.Values.{floatReply, boxReply, rootReply, acosReply, primDistReply, primBoundsReply};
+ghost use Rattle.bemitondry_values.specs.Values.{floatReply, boxReply, rootReply, acosReply, primDistReply};
+ghost use Rattle.bemitondry_values.specs.Values.{primBoundsReply};
 use reply::Reply;
 use sdf::Bounds;
 use vec::Vec3;

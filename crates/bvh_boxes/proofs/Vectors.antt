@@ -10,7 +10,7 @@ use Rattle.scalar.specs.Ranges.{between, magnitude}
 use Rattle.vec.specs.declared.Vec3.{Vec3}
 use Rattle.vec.specs.Vec.{vmin, vmax}
 use Rattle.refusals.specs.Ranges.{greatest, within}
-use Rattle.float_order.specs.Order.{number}
+use Rattle.float_order.specs.Inside.Order.{number}
 use Rattle.float_order.proofs.Order.{is-yes, is-not, number-eq, le-right, le-refl, le-trans, lt-not-le}
 use Rattle.float_order.proofs.Extremes.{fmin-either, fmin-left, fmin-right, fmin-greatest, fmax-either, fmax-left}
 use Rattle.float_order.proofs.Extremes.{fmax-right, fmax-least}

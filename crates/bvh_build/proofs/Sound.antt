@@ -23,7 +23,7 @@ use Rattle.refusals.specs.Ranges.{far, greatest, upTo, within, withinUpTo, coor
 use Rattle.refusals.specs.Prims.{shapeOk}
 use Rattle.words.specs.Lists.{All}
 use Rattle.plan.specs.Plan.{Piece, Plan}
-use Rattle.float_order.specs.Order.{Within, Held}
+use Rattle.float_order.specs.Inside.Order.{Bounded, Exactly}
 use Rattle.float_order.proofs.Rounding.{zero-is}
 use Rattle.float_order.proofs.Bounds.{within-more, within-of, within-of-plus, within-le, within-ge, add-within}
 use Rattle.float_order.proofs.Bounds.{sub-within, fmax-within, fmin-within, held-whole}
@@ -41,20 +41,20 @@ greatest-is : HasValue greatest false (16777215 * 2 ^ 104) 1
 unfolding ofBits
 greatest-is = (refl, refl)
 
-magnitude-within : (b : ℕ) (y : Float) → HasValue y false b 1 → (x : Float) → T (magnitude x y) → Within b x
+magnitude-within : (b : ℕ) (y : Float) → HasValue y false b 1 → (x : Float) → T (magnitude x y) → Bounded b x
 unfolding magnitude between
 magnitude-within b y v x h = within-of b x y v (and-l (le (neg y) x) (le x y) h) (and-r (le (neg y) x) (le x y) h)
 
-radius-within : (x : Float) → T (radius x) → Within 10000 x
+radius-within : (x : Float) → T (radius x) → Bounded 10000 x
 unfolding radius upTo between
 radius-within x h =
     within-of-plus 10000 x far far-is (subst (λ (o : Float). T (le o x)) zero-is (and-l (le f0 x) (le x far) h)) (and-r (le f0 x) (le x far) h)
 
 -- ---- vectors, by component
 record Within3 (b : ℕ) (v : Vec3) : Type 0 where
-  x : Within b (v .x)
-  y : Within b (v .y)
-  z : Within b (v .z)
+  x : Bounded b (v .x)
+  y : Bounded b (v .y)
+  z : Bounded b (v .z)
 
 within-within : (b : ℕ) (y : Float) → HasValue y false b 1 → (v : Vec3) → T (within v y) → Within3 b v
 unfolding within
@@ -77,11 +77,11 @@ more3 a b v h w =
     record
     { x = within-more a b (v .x) h (w .x); y = within-more a b (v .y) h (w .y); z = within-more a b (v .z) h (w .z) }
 
-splat-within : (b : ℕ) (x : Float) → Within b x → Within3 b (vsplat x)
+splat-within : (b : ℕ) (x : Float) → Bounded b x → Within3 b (vsplat x)
 unfolding vsplat
 splat-within b x w = record { x = w; y = w; z = w }
 
-module _ (a b c : ℕ) (held : Held binary32 c) (h : a + b ≤ c) (u v : Vec3) (p : Within3 a u) (q : Within3 b v) where
+module _ (a b c : ℕ) (held : Exactly binary32 c) (h : a + b ≤ c) (u v : Vec3) (p : Within3 a u) (q : Within3 b v) where
   vadd-within : Within3 c (vadd u v)
   unfolding vadd
   vadd-within =
@@ -124,10 +124,10 @@ record BoxWithin (b : ℕ) (a : Aabb) : Type 0 where
   lo : Within3 b (a .lo)
   hi : Within3 b (a .hi)
 
-held-30000 : Held binary32 30000
+held-30000 : Exactly binary32 30000
 held-30000 = held-whole binary32 30000 (lit≤ tt)
 
-held-40000 : Held binary32 40000
+held-40000 : Exactly binary32 40000
 held-40000 = held-whole binary32 40000 (lit≤ tt)
 
 -- corners lo and hi, e further out
@@ -140,7 +140,7 @@ out lo hi e p q r =
       hi = vadd-within 10000 20000 30000 held-30000 (lit≤ tt) hi e q r;
     }
 
-widened-within : (b : Aabb) (e : Float) → BoxWithin 30000 b → Within 10000 e → BoxWithin 40000 (widened b e)
+widened-within : (b : Aabb) (e : Float) → BoxWithin 30000 b → Bounded 10000 e → BoxWithin 40000 (widened b e)
 unfolding widened
 widened-within b e p q =
     record {
@@ -153,13 +153,13 @@ unfolding spread
 spread-within c e p q = out c c e p p q
 
 around-within
-    : (a b : Vec3) (r : Float) → Within3 10000 a → Within3 10000 b → Within 10000 r → BoxWithin 30000 (around a b r)
+    : (a b : Vec3) (r : Float) → Within3 10000 a → Within3 10000 b → Bounded 10000 r → BoxWithin 30000 (around a b r)
 unfolding around
 around-within a b r p q w =
     out (vmin a b) (vmax a b) (vsplat r) (vmin-within 10000 a b p q) (vmax-within 10000 a b p q) (more3 10000 20000 (vsplat r) (lit≤ tt) (splat-within 10000 r w))
 
 torus-within
-    : (major minor : Float) → Within 10000 major → Within 10000 minor
+    : (major minor : Float) → Bounded 10000 major → Bounded 10000 minor
     → Within3 20000 (record { x = major ⊕ minor; y = minor; z = major ⊕ minor })
 torus-within major minor p q =
     let s = add-within binary32 10000 10000 20000 (held-whole binary32 20000 (lit≤ tt)) major minor p q (lit≤ tt) in
@@ -179,7 +179,7 @@ box-within (RoundBox c b r) e h k =
 box-within (Plane n d) e h k = record { lo = none; hi = none }
   where
     none : Within3 40000 (vsplat f0)
-    none = splat-within 40000 f0 (subst (Within 40000) (sym zero-is) (record { finite = tt; size = lit≤ tt }))
+    none = splat-within 40000 f0 (subst (Bounded 40000) (sym zero-is) (record { finite = tt; size = lit≤ tt }))
 box-within (Capsule a b r) e h k =
     let t = three (coordinates a) (coordinates b) (radius r) h in
     widened-within (around a b r) e (around-within a b r (coordinates-within a (t .x)) (coordinates-within b (t .y)) (radius-within r (t .z))) (radius-within e k)
@@ -197,7 +197,7 @@ box-within (Cone a b ra rb) e h k =
     widened-within (around a b (fmax ra rb)) e (around-within a b (fmax ra rb) (coordinates-within a (t .x)) (coordinates-within b (t .y)) r) (radius-within e k)
 
 -- ---- what is within 40,000 is finite
-small : (x : Float) → Within 40000 x → T (magnitude x greatest)
+small : (x : Float) → Bounded 40000 x → T (magnitude x greatest)
 small x w =
     let v = within-more 40000 (16777215 * 2 ^ 104) x (lit≤ tt) w in
     bounded x (within-ge (16777215 * 2 ^ 104) x greatest greatest-is v) (within-le (16777215 * 2 ^ 104) x greatest greatest-is v)

@@ -11,9 +11,9 @@ ghost use Rattle.bvh_build.specs.Build.{buildOf};
 ghost use Rattle.bvh_build.specs.Encode.{nodeWords, laid, low32};
 ghost use Rattle.bvh_build.specs.Tables.{builtOf};
 ghost use Rattle.bvh_build.specs.Inside.Lays.{Lays, Room, Builds, zeroBox};
-use bvh_rules::Nodes;
-use bvh_rules::Order;
 use plan::Floats;
+use plan::Nodes;
+use plan::Order;
 use plan::Words;
 use sdf::Aabb;
 

@@ -14,11 +14,11 @@ use borrow.Author.Tests.{lt-ltb, le-ltb, le-leb, lt-leb}
 use Rattle.sdf.specs.declared.Aabb.{Aabb}
 use Rattle.words.specs.Lists.{listFrom}
 use Rattle.words.proofs.Runs.{from-snoc}
-use Rattle.plan.specs.Sections.{nodesFirst, orderFirst, tableWords}
+use Rattle.plan.specs.Sections.{nodesFirst, orderFirst, tableWords, nodesWords, orderPlaces}
 use Rattle.plan.specs.Records.{wordOf, floatOf}
 use Rattle.bvh_boxes.specs.Boxes.{noBox}
 use Rattle.bvh_rules.specs.declared.Node.{Node}
-use Rattle.bvh_rules.specs.Nodes.{nodesMost, nodesWords, orderPlaces, nodesOf, orderOf, nodeAt}
+use Rattle.bvh_rules.specs.Nodes.{nodesMost, nodesOf, orderOf, nodeAt}
 use Rattle.bvh_rules.specs.Inside.Steps.{every, heldAt, holdsAll, marksOf, orderOk}
 
 -- ---- the boxes of a leaf's objects

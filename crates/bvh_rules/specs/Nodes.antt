@@ -5,19 +5,13 @@ use mathlib.Core.List.{List}
 use lib.ListN.{take, drop}
 use lib.Ieee.{Float}
 use Rattle.sdf.specs.declared.Aabb.{Aabb}
-use Rattle.plan.specs.Sections.{nodesFirst, orderFirst}
+use Rattle.plan.specs.Sections.{nodesFirst, nodesWords, orderFirst, orderPlaces}
 use Rattle.plan.specs.Records.{wordOf, floatOf}
 use Rattle.bvh_rules.specs.declared.Node.{Node}
 
--- ---- how many nodes there may be, their words, and the places of the order
+-- ---- how many nodes there may be
 abbrev pub nodesMost : ℕ
 nodesMost = 511
-
-abbrev pub nodesWords : ℕ
-nodesWords = 4599
-
-abbrev pub orderPlaces : ℕ
-orderPlaces = 256
 
 -- ---- the nodes and the order of a call's table
 unfoldable pub nodesOf : {A : Type 0} → List A → List A

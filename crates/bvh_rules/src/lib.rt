@@ -15,11 +15,6 @@ use plan::Words;
 use sdf::Aabb;
 use vec::Vec3;
 
-// The nodes and the order of a tree, apart from the table of a call.
-pub type Nodes = [u32; 4599];
-
-pub type Order = [u32; 256];
-
 // A node's words, how many nodes there may be, and how many places the order has.
 pub const NODE_WORDS: usize = 9;
 

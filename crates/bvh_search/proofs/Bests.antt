@@ -9,9 +9,9 @@ use lib.Dec.{T}
 use lib.Ieee.{Float, lt, le, eq}
 use Rattle.vec.specs.declared.Vec3.{Vec3}
 use Rattle.words.specs.Lists.{listFrom}
-use Rattle.float_order.specs.Order.{closer}
+use Rattle.float_order.specs.Inside.Order.{lessOf}
 use Rattle.float_order.proofs.Order.{number-eq, le-left, le-refl, le-trans}
-use Rattle.float_order.proofs.Extremes.{closer-left, closer-right, closer-one}
+use Rattle.float_order.proofs.Extremes.{lessOf-left, lessOf-right, lessOf-one}
 use Rattle.plan.specs.declared.DistHit.{DistHit}
 use Rattle.plan.specs.Plan.{Piece}
 use Rattle.plan.specs.Nearest.{pieceDist, hitOf, nearest}
@@ -23,7 +23,7 @@ use Rattle.bvh_search.specs.Demand.{In, dist, Least}
 use Rattle.bvh_search.proofs.Covers.{in-left, in-right, in-split}
 use Rattle.bvh_search.proofs.Steps.{keeps}
 
-closer-d : (x : Piece) (p : Vec3) (best : DistHit) → plan.closer best (hitOf x p) .d ≡ closer (best .d) (pieceDist x p)
+closer-d : (x : Piece) (p : Vec3) (best : DistHit) → plan.closer best (hitOf x p) .d ≡ lessOf (best .d) (pieceDist x p)
 unfolding plan.closer hitOf
 closer-d x p best = go (lt (pieceDist x p) (best .d))
   where
@@ -41,7 +41,7 @@ module _ (o : List ℕ) (w : List ℕ) (f : List Float) (p : Vec3) (bound : Floa
   -- one more place
   module _ (i : ℕ) (d : Float) (seen : List ℕ) where
     abbrev c : Float
-    c = closer d (dist o w f p i)
+    c = lessOf d (dist o w f p i)
 
     one-more
         : (c ≡ d) ⊎ (c ≡ dist o w f p i) → (d ≡ bound) ⊎ ((j : ℕ) × In j seen × (d ≡ dist o w f p j))
@@ -53,15 +53,15 @@ module _ (o : List ℕ) (w : List ℕ) (f : List Float) (p : Vec3) (bound : Floa
     good-one : (passed : List Passed) → Good d seen passed → Good c (seen ++ (i ∷ [])) passed
     good-one passed g =
         let n = le-left d bound (g .least .bounded) in
-        let down = closer-left d (dist o w f p i) n in
+        let down = lessOf-left d (dist o w f p i) n in
         record {
           least = record {
-            one = one-more (closer-one d (dist o w f p i)) (g .least .one);
+            one = one-more (lessOf-one d (dist o w f p i)) (g .least .one);
             bounded = le-trans c d bound down (g .least .bounded);
             below = λ j h k.
                 elim (in-split j seen (i ∷ []) h) [
                   | inl m ↦ le-trans c d (dist o w f p j) down (g .least .below j m k)
-                  | inr (inl e) ↦ rw e (closer-right d (dist o w f p i) n (rw (e, number-eq (dist o w f p i)) at k))
+                  | inr (inl e) ↦ rw e (lessOf-right d (dist o w f p i) n (rw (e, number-eq (dist o w f p i)) at k))
                   | inr (inr z) ↦ absurd z
                 ];
           };

@@ -10,11 +10,11 @@ use lib.Dec.{T}
 use lib.Ieee.{Float, nan, inf, fin, binary32, ofBits, up, fits, lt, le}
 use lib.Ieee.Fits.{up-pos}
 use Rattle.root.specs.Root.{plain, rootOf}
-use Rattle.root.specs.Bar.{barOf}
+use Rattle.root.specs.Inside.Bar.{barOf}
 use Rattle.root.proofs.BarLaw.{bar-law}
 use Rattle.scalar.specs.F32.{f0}
 use Rattle.refusals.specs.Ranges.{greatest}
-use Rattle.float_order.specs.Order.{number, zeroF, clear}
+use Rattle.float_order.specs.Inside.Order.{number, zeroF, clear}
 use Rattle.float_order.proofs.Order.{yes-of, is-yes, is-not, not-of, same-test, at-most→le, bottom-le, le-left}
 use Rattle.float_order.proofs.Order.{le-right, le-trans, lt-not-le, lt-of-not-le, lt-le, lt-le-trans, lt-is-not-le}
 use Rattle.float_order.proofs.Bounds.{finite-between}

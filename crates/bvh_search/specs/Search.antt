@@ -10,12 +10,12 @@ use Rattle.vec.specs.declared.Vec3.{Vec3}
 use Rattle.sdf.specs.Boxes.{boxDist}
 use Rattle.words.specs.Lists.{listFrom}
 use Rattle.plan.specs.declared.DistHit.{DistHit}
-use Rattle.plan.specs.Sections.{objects}
+use Rattle.plan.specs.Sections.{objects, orderPlaces}
 use Rattle.plan.specs.Records.{wordOf}
 use Rattle.plan.specs.Plan.{Piece, pieceAt, countOf}
 use Rattle.plan.specs.Nearest.{nearest}
 use Rattle.bvh_rules.specs.declared.Node.{Node}
-use Rattle.bvh_rules.specs.Nodes.{nodesMost, orderPlaces, nodeAt}
+use Rattle.bvh_rules.specs.Nodes.{nodesMost, nodeAt}
 use Rattle.bvh_search.specs.declared.Scan.{Scan}
 use Rattle.bvh_search.specs.declared.Searched.{Searched}
 

@@ -1,5 +1,5 @@
--- Finite values of bounded size: a sum, a difference and a product of such is finite and no larger than the bounds' sum or product, where the format holds that.
--- By the rounding of one fraction. Assumes nothing.
+-- Finite values of bounded size: a sum, a difference and a product of such is finite and no larger than the bounds' sum
+-- or product, where the format holds that. By the rounding of one fraction. Assumes nothing.
 use mathlib.Core.Path.{_≡_, refl, sym, subst, _∙_}
 use mathlib.Core.Bool.{Bool, true, false, true≢false}
 use Prim.Native.Nat.{ℕ, suc, _+_, _*_, _^_, _≤_, _<_}
@@ -14,7 +14,7 @@ use lib.Ieee.Positive.{den, den-pos}
 use lib.Ieee.Order.{round-mono}
 use lib.Ieee.Scale.{finite}
 use Rattle.scalar.specs.Extremes.{fmax, fmin}
-use Rattle.float_order.specs.Order.{credit, debit, AtMost, zeroF, Apart, Rounded, Within, Held}
+use Rattle.float_order.specs.Inside.Order.{credit, debit, AtMost, zeroF, Apart, Rounded, Bounded, Exactly}
 use Rattle.float_order.proofs.Holding.{round-up}
 use Rattle.float_order.proofs.Order.{le→at-most, at-most→le, le-right, le-bottom, top-le, le-trans, neg-le}
 use Rattle.float_order.proofs.Extremes.{fmax-either, fmin-either}
@@ -27,10 +27,10 @@ finite-between lo (inf true) hi p q h k = subst (λ (u : Float). T (finite u)) (
 finite-between lo (inf false) hi p q h k = subst (λ (u : Float). T (finite u)) (top-le hi k) q
 finite-between lo (fin s m e) hi p q h k = tt
 
-pub within-more : (a b : ℕ) (x : Float) → a ≤ b → Within a x → Within b x
+pub within-more : (a b : ℕ) (x : Float) → a ≤ b → Bounded a x → Bounded b x
 within-more a b x h w = record { finite = w .finite; size = le-trans-ℕ (w .size) (mul-le-mul-right (den x) h) }
 
-pub within-neg : (b : ℕ) (x : Float) → Within b x → Within b (neg x)
+pub within-neg : (b : ℕ) (x : Float) → Bounded b x → Bounded b (neg x)
 within-neg b x w = record { finite = neg-finite x (w .finite); size = size x (w .size) }
   where
     size : (x : Float) → credit x + debit x ≤ b * den x → credit (neg x) + debit (neg x) ≤ b * den (neg x)
@@ -58,7 +58,7 @@ value-debit (fin false m e) b h = refl
 value-debit (fin true m e) b h = absurd (true≢false (h .0))
 
 -- 0 ≤ x ≤ b
-pub within-of-plus : (b : ℕ) (x y : Float) → HasValue y false b 1 → T (le zeroF x) → T (le x y) → Within b x
+pub within-of-plus : (b : ℕ) (x y : Float) → HasValue y false b 1 → T (le zeroF x) → T (le x y) → Bounded b x
 within-of-plus b x y v h k =
     let p = finite-between zeroF x y tt (value-finite y b v) h k in
     let a : AtMost x y = le→at-most x y p (value-finite y b v) k in
@@ -76,37 +76,37 @@ neg-neg (fin true m e) = refl
 neg-neg (fin false m e) = refl
 
 -- -b ≤ x ≤ b, as a program tests it: y is the constant b
-pub within-of : (b : ℕ) (x y : Float) → HasValue y false b 1 → T (le (neg y) x) → T (le x y) → Within b x
+pub within-of : (b : ℕ) (x y : Float) → HasValue y false b 1 → T (le (neg y) x) → T (le x y) → Bounded b x
 within-of b x y v h k = go x (finite-between (neg y) x y (neg-finite y (value-finite y b v)) (value-finite y b v) h k) h k
   where
     plus : (m : ℕ) (e : ℤ) → T (le zeroF (fin false m e))
     plus m e = at-most→le zeroF (fin false m e) tt tt (omega arith)
 
-    go : (x : Float) → T (finite x) → T (le (neg y) x) → T (le x y) → Within b x
+    go : (x : Float) → T (finite x) → T (le (neg y) x) → T (le x y) → Bounded b x
     go nan p h k = absurd p
     go (inf s) p h k = absurd p
     go (fin false m e) p h k = within-of-plus b (fin false m e) y v (plus m e) k
     go (fin true m e) p h k =
         unfold neg in (within-neg b (fin false m e) (within-of-plus b (fin false m e) y v (plus m e) (subst (λ (u : Float). T (le (fin false m e) u)) (neg-neg y) (neg-le (neg y) (fin true m e) h))))
 
-pub within-le : (b : ℕ) (x y : Float) → HasValue y false b 1 → Within b x → T (le x y)
+pub within-le : (b : ℕ) (x y : Float) → HasValue y false b 1 → Bounded b x → T (le x y)
 within-le b x y v w =
     at-most→le x y (w .finite) (value-finite y b v) (short (credit x) (debit x) (den x) (credit y) (debit y) (den y) (value-credit y b v) (value-debit y b v) (w .size))
   where
     short : (c d e c' d' e' : ℕ) → c' ≡ b * e' → d' ≡ 0 → c + d ≤ b * e → c * e' + d' * e ≤ c' * e + d * e'
     short c d e c' d' e' C' D' h = rw (C', D', mul-right-comm b e' e) (omega (arith, mul-le-mul-right e' h, add-mul c d e'))
 
-pub within-ge : (b : ℕ) (x y : Float) → HasValue y false b 1 → Within b x → T (le (neg y) x)
+pub within-ge : (b : ℕ) (x y : Float) → HasValue y false b 1 → Bounded b x → T (le (neg y) x)
 within-ge b x y v w = subst (λ (u : Float). T (le (neg y) u)) (neg-neg x) (neg-le (neg x) y (within-le b (neg x) y v (within-neg b x w)))
 
 -- ---- rounding stays within a bound that the format holds
-plus-within : (f : Format) (k c b : ℕ) → Held f b → 0 < c → k ≤ b * c → Within b (round f false k c)
+plus-within : (f : Format) (k c b : ℕ) → Exactly f b → 0 < c → k ≤ b * c → Bounded b (round f false k c)
 plus-within f k c b v C h =
     within-of-plus b (round f false k c) (round f false b 1) v
     (le-trans zeroF (round f false 0 c) (round f false k c) (zero-le-zero zeroF (round f false 0 c) zero-zero (round-zero f false c C)) (round-mono f 0 c k c C C (omega arith)))
     (round-mono f k c b 1 C (lit< tt) (omega arith))
 
-pub round-within : (f : Format) (s : Bool) (k c b : ℕ) → Held f b → 0 < c → k ≤ b * c → Within b (round f s k c)
+pub round-within : (f : Format) (s : Bool) (k c b : ℕ) → Exactly f b → 0 < c → k ≤ b * c → Bounded b (round f s k c)
 round-within f false k c b v C h = plus-within f k c b v C h
 round-within f true k c b v C h = rw (round-neg f false k c) (within-neg b (round f false k c) (plus-within f k c b v C h))
 
@@ -114,12 +114,12 @@ apart-le : (s : Bool) (k p n : ℕ) → Apart s k p n → k ≤ p + n
 apart-le false k p n h = omega arith
 apart-le true k p n h = omega arith
 
-rounded-within : (f : Format) (r : Float) (p n c b : ℕ) → Held f b → 0 < c → Rounded f r p n c → p + n ≤ b * c → Within b r
+rounded-within : (f : Format) (r : Float) (p n c b : ℕ) → Exactly f b → 0 < c → Rounded f r p n c → p + n ≤ b * c → Bounded b r
 rounded-within f r p n c b v C a h = rw (a .is) (round-within f (a .sign) (a .size) c b v C (le-trans-ℕ (apart-le (a .sign) (a .size) p n (a .apart)) h))
 
 -- ---- sums, differences and products
-module _ (f : Format) (a b c : ℕ) (held : Held f c) (x y : Float) (wx : Within a x) (wy : Within b y) where
-  pub add-within : a + b ≤ c → Within c (add f x y)
+module _ (f : Format) (a b c : ℕ) (held : Exactly f c) (x y : Float) (wx : Bounded a x) (wy : Bounded b y) where
+  pub add-within : a + b ≤ c → Bounded c (add f x y)
   add-within h = rounded-within f (add f x y) _ _ (den x * den y) c held (mul-pos (den-pos x) (den-pos y)) (add-rounded f x y (wx .finite) (wy .finite)) (total (credit x) (debit x) (den x) (credit y) (debit y) (den y) (wx .size) (wy .size))
     where
       total : (p q e p' q' e' : ℕ) → p + q ≤ a * e → p' + q' ≤ b * e' → p * e' + p' * e + (q * e' + q' * e) ≤ c * (e * e')
@@ -129,7 +129,7 @@ module _ (f : Format) (a b c : ℕ) (held : Held f c) (x y : Float) (wx : Within
           let z = simp add-mul at (mul-le-mul-right (e * e') h) in
           simp mul-comm (omega (arith, u, w, z))
 
-  pub mul-within : a * b ≤ c → Within c (mul f x y)
+  pub mul-within : a * b ≤ c → Bounded c (mul f x y)
   mul-within h = rounded-within f (mul f x y) _ _ (den x * den y) c held (mul-pos (den-pos x) (den-pos y)) (mul-rounded f x y (wx .finite) (wy .finite)) (total (credit x) (debit x) (den x) (credit y) (debit y) (den y) (wx .size) (wy .size))
     where
       total : (p q e p' q' e' : ℕ) → p + q ≤ a * e → p' + q' ≤ b * e' → p * p' + q * q' + (p * q' + q * p') ≤ c * (e * e')
@@ -138,19 +138,19 @@ module _ (f : Format) (a b c : ℕ) (held : Held f c) (x y : Float) (wx : Within
           let z = simp mul-assoc at (mul-le-mul-right (e * e') h) in
           omega (arith, u, z)
 
-pub sub-within : (f : Format) (a b c : ℕ) → Held f c → (x y : Float) → Within a x → Within b y → a + b ≤ c → Within c (sub f x y)
+pub sub-within : (f : Format) (a b c : ℕ) → Exactly f c → (x y : Float) → Bounded a x → Bounded b y → a + b ≤ c → Bounded c (sub f x y)
 unfolding sub
 sub-within f a b c held x y wx wy h = add-within f a b c held x (neg y) wx (within-neg b y wy) h
 
-pub fmax-within : (b : ℕ) (x y : Float) → Within b x → Within b y → Within b (fmax x y)
-fmax-within b = fmax-either (Within b)
+pub fmax-within : (b : ℕ) (x y : Float) → Bounded b x → Bounded b y → Bounded b (fmax x y)
+fmax-within b = fmax-either (Bounded b)
 
-pub fmin-within : (b : ℕ) (x y : Float) → Within b x → Within b y → Within b (fmin x y)
-fmin-within b = fmin-either (Within b)
+pub fmin-within : (b : ℕ) (x y : Float) → Bounded b x → Bounded b y → Bounded b (fmin x y)
+fmin-within b = fmin-either (Bounded b)
 
 -- ---- what a format holds: every whole number up to 2 ^ prec, and such a number times a power of two, below 2 ^ (emax + 1)
-pub held-whole : (f : Format) (b : ℕ) → b ≤ 2 ^ prec f → Held f b
+pub held-whole : (f : Format) (b : ℕ) → b ≤ 2 ^ prec f → Exactly f b
 held-whole f b h = round-whole f false b h
 
-pub held-scaled : (f : Format) (q k : ℕ) → q < 2 ^ prec f → q * 2 ^ k < 2 ^ suc (emax f) → Held f (q * 2 ^ k)
+pub held-scaled : (f : Format) (q k : ℕ) → q < 2 ^ prec f → q * 2 ^ k < 2 ^ suc (emax f) → Exactly f (q * 2 ^ k)
 held-scaled f q k h g = round-up f false q k h (subst (λ (z : ℕ). q * 2 ^ k < z) (sym (mul-one (2 ^ suc (emax f)))) g)

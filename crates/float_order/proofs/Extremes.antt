@@ -1,12 +1,12 @@
--- The greater, the lesser and the nearer of two floats bound both that are numbers, and are one of them; a NaN is passed over. By the cases of each test.
--- Assumes nothing.
+-- The greater, the lesser and the nearer of two floats bound both that are numbers, and are one of them; a NaN is
+-- passed over. By the cases of each test. Assumes nothing.
 use mathlib.Core.Path.{_≡_, refl, sym, ap, subst, _∙_}
 use mathlib.Core.Logic.{_⊎_, inl, inr}
 use mathlib.Core.Bool.{Bool, true, false, cond}
 use lib.Dec.{T}
 use lib.Ieee.{Float, lt, eq, le}
 use Rattle.scalar.specs.Extremes.{fmax, fmin}
-use Rattle.float_order.specs.Order.{number, closer}
+use Rattle.float_order.specs.Inside.Order.{number, lessOf}
 use Rattle.float_order.proofs.Order.{yes-of, not-of, is-not, number-eq, le-left, le-right, le-refl, le-trans, lt-le, lt-left, lt-not-le, le-of-not-lt, le-antisym}
 
 either : (P : Float → Type 0) (p q : Bool) (a b : Float) → P a → P b → P (cond p a (cond q b a))
@@ -23,8 +23,8 @@ pub fmin-either : (P : Float → Type 0) (a b : Float) → P a → P b → P (fm
 unfolding fmin
 fmin-either P a b x y = either P (lt a b) (eq b b) a b x y
 
-pub closer-either : (P : Float → Type 0) (a b : Float) → P a → P b → P (closer a b)
-closer-either P a b x y = go (lt b a)
+pub lessOf-either : (P : Float → Type 0) (a b : Float) → P a → P b → P (lessOf a b)
+lessOf-either P a b x y = go (lt b a)
   where
     go : (p : Bool) → P (cond p b a)
     go true = y
@@ -36,8 +36,8 @@ fmax-one a b = fmax-either (λ (r : Float). (r ≡ a) ⊎ (r ≡ b)) a b (inl re
 pub fmin-one : (a b : Float) → (fmin a b ≡ a) ⊎ (fmin a b ≡ b)
 fmin-one a b = fmin-either (λ (r : Float). (r ≡ a) ⊎ (r ≡ b)) a b (inl refl) (inr refl)
 
-pub closer-one : (a b : Float) → (closer a b ≡ a) ⊎ (closer a b ≡ b)
-closer-one a b = closer-either (λ (r : Float). (r ≡ a) ⊎ (r ≡ b)) a b (inl refl) (inr refl)
+pub lessOf-one : (a b : Float) → (lessOf a b ≡ a) ⊎ (lessOf a b ≡ b)
+lessOf-one a b = lessOf-either (λ (r : Float). (r ≡ a) ⊎ (r ≡ b)) a b (inl refl) (inr refl)
 
 self : (b : Float) → eq b b ≡ true → T (number b)
 self b e = yes-of (sym (number-eq b) ∙ e)
@@ -96,22 +96,22 @@ pub fmin-mono : (a b a' b' : Float) → T (le a a') → T (le b b') → T (le (f
 fmin-mono a b a' b' h k = fmin-greatest (fmin a b) a' b' (le-trans (fmin a b) a a' (fmin-left a b (le-left a a' h)) h) (le-trans (fmin a b) b b' (fmin-right a b (le-left b b' k)) k)
 
 -- ---- the nearer is below both, where the best so far is a number
-pub closer-left : (best d : Float) → T (number best) → T (le (closer best d) best)
-closer-left best d h = go (lt d best) refl
+pub lessOf-left : (best d : Float) → T (number best) → T (le (lessOf best d) best)
+lessOf-left best d h = go (lt d best) refl
   where
     go : (p : Bool) → lt d best ≡ p → T (le (cond p d best) best)
     go true e = lt-le d best (yes-of e)
     go false e = le-refl best h
 
-pub closer-right : (best d : Float) → T (number best) → T (number d) → T (le (closer best d) d)
-closer-right best d h k = go (lt d best) refl
+pub lessOf-right : (best d : Float) → T (number best) → T (number d) → T (le (lessOf best d) d)
+lessOf-right best d h k = go (lt d best) refl
   where
     go : (p : Bool) → lt d best ≡ p → T (le (cond p d best) d)
     go true e = le-refl d k
     go false e = le-of-not-lt best d h k (not-of e)
 
-pub closer-number : (best d : Float) → T (number best) → T (number (closer best d))
-closer-number best d h = le-left (closer best d) best (closer-left best d h)
+pub lessOf-number : (best d : Float) → T (number best) → T (number (lessOf best d))
+lessOf-number best d h = le-left (lessOf best d) best (lessOf-left best d h)
 
 -- ---- one or the other is a number
 pub fmax-number-left : (a b : Float) → T (number a) → T (number (fmax a b))

@@ -1,5 +1,5 @@
--- Rounding does not cross a value that the format holds: a fraction of at least x rounds to at least x. So what is not negative moves a sum up, and a
--- difference down. Assumes nothing.
+-- Rounding does not cross a value that the format holds: a fraction of at least x rounds to at least x. So what is not
+-- negative moves a sum up, and a difference down. Assumes nothing.
 use mathlib.Core.Path.{_≡_, refl, sym, ap, subst, _∙_}
 use mathlib.Core.Bool.{Bool, true, false, cond, not, _&&_, true≢false}
 use Prim.Native.Nat.{ℕ, zero, suc, _+_, _-_, _*_, _/_, _%_, _^_, _≤_, _<_}
@@ -16,7 +16,7 @@ use lib.Ieee.Exact.{HasValue, round-exact}
 use lib.Ieee.Digits.{back}
 use lib.Ieee.Positive.{den, den-pos}
 use lib.Ieee.Scale.{finite}
-use Rattle.float_order.specs.Order.{credit, debit, zeroF, Rounded, minusZero}
+use Rattle.float_order.specs.Inside.Order.{credit, debit, zeroF, Rounded, minusZero}
 use Rattle.float_order.proofs.Order.{finite-number, le→at-most, at-most→le, le-left, le-right, bottom-le, le-top, le-refl, le-trans, neg-le, neg-number}
 use Rattle.float_order.proofs.Rounding.{no-debit, rounded-mono, add-rounded, add-mono, add-inf-right, add-number'}
 

@@ -1,5 +1,6 @@
--- The order of floats: `le` is reflexive, transitive and total on the numbers (all but NaN), and `lt` is its negation the other way round. A finite value is the
--- fraction (credit - debit) / den, so an order of two finite values is one of sums of products, with no case by sign. Assumes nothing.
+-- The order of floats: `le` is reflexive, transitive and total on the numbers (all but NaN), and `lt` is its negation
+-- the other way round. A finite value is the fraction (credit - debit) / den, so an order of two finite values is one
+-- of sums of products, with no case by sign. Assumes nothing.
 use mathlib.Core.Path.{_≡_, refl, sym, ap, subst}
 use mathlib.Core.Logic.{_⊎_, inl, inr}
 use mathlib.Core.Bool.{Bool, true, false, not, _&&_, _||_, Bool·beq}
@@ -12,7 +13,7 @@ use lib.Ieee.{Float, nan, inf, fin, up, down, level, lt, eq, ne, le, neg, isNan}
 use lib.Ieee.Fits.{and-l, and-r, and-i, eq→eqb}
 use lib.Ieee.Positive.{den, den-pos}
 use lib.Ieee.Scale.{finite}
-use Rattle.float_order.specs.Order.{number, credit, debit, AtMost, Under}
+use Rattle.float_order.specs.Inside.Order.{number, credit, debit, AtMost, Under}
 
 -- ---- tests
 pub yes-of : {b : Bool} → b ≡ true → T b

@@ -1,4 +1,5 @@
--- The root grows on all whose sign is clear, the infinity included. By the cases of a value, from the law for finite ones. Assumes nothing.
+-- The root grows on all whose sign is clear, the infinity included. By the cases of a value, from the law for finite
+-- ones. Assumes nothing.
 use mathlib.Core.Path.{_≡_, refl}
 use mathlib.Core.Bool.{true, false}
 use lib.Dec.{T}
@@ -7,7 +8,7 @@ use lib.Ieee.Scale.{finite}
 use Rattle.root.specs.Root.{plain, rootOf}
 use Rattle.root.proofs.Laws.{root-plain}
 use Rattle.root.proofs.Order.{root-grows}
-use Rattle.float_order.specs.Order.{number, clear}
+use Rattle.float_order.specs.Inside.Order.{number, clear}
 use Rattle.float_order.proofs.Order.{le-top, top-le}
 
 -- what the laws of the root ask for

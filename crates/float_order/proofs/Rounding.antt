@@ -1,5 +1,6 @@
--- Sums, differences and products keep the order, the infinities among them, wherever they are numbers. Each operation on finite values rounds one fraction
--- (p - n) / c, and rounding keeps the order of fractions of either sign. Assumes nothing.
+-- Sums, differences and products keep the order, the infinities among them, wherever they are numbers. Each operation
+-- on finite values rounds one fraction (p - n) / c, and rounding keeps the order of fractions of either sign. Assumes
+-- nothing.
 use mathlib.Core.Path.{_≡_, refl, sym, ap, subst, _∙_}
 use mathlib.Core.Logic.{_⊎_, inl, inr}
 use mathlib.Core.Bool.{Bool, true, false, cond, not}
@@ -16,7 +17,7 @@ use lib.Ieee.Positive.{den, den-pos}
 use lib.Ieee.Order.{round-mono}
 use lib.Ieee.Scale.{finite}
 use Rattle.scalar.specs.F32.{f0}
-use Rattle.float_order.specs.Order.{number, credit, debit, zeroF, Zero, Apart, Rounded}
+use Rattle.float_order.specs.Inside.Order.{number, credit, debit, zeroF, Zero, Apart, Rounded}
 use Rattle.float_order.proofs.Order.{le→at-most, at-most→le, le-left, le-right, bottom-le, le-top, top-le, le-refl, le-trans, neg-le, neg-number}
 
 -- ---- the sign goes through rounding

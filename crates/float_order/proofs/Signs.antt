@@ -1,5 +1,5 @@
--- Values whose sign is clear, no -0 among them: a sum and a product of such is one, and so is the greater of anything and +0. By the cases of a value.
--- Assumes nothing.
+-- Values whose sign is clear, no -0 among them: a sum and a product of such is one, and so is the greater of anything
+-- and +0. By the cases of a value. Assumes nothing.
 use mathlib.Core.Path.{_≡_, refl}
 use mathlib.Core.Bool.{Bool, true, false, not, cond}
 use Prim.Native.Nat.{ℕ, zero, suc, _*_, _^_, _+_}
@@ -8,7 +8,7 @@ use lib.Dec.{T, ltb, eqb}
 use lib.Ieee.{Float, nan, inf, fin, Format, prec, emax, low, up, down, odd, units, round, add, mul, lt, eq, le}
 use lib.Ieee.Fits.{round-is}
 use Rattle.scalar.specs.Extremes.{fmax}
-use Rattle.float_order.specs.Order.{number, zeroF, minusZero, clear}
+use Rattle.float_order.specs.Inside.Order.{number, zeroF, minusZero, clear}
 use Rattle.float_order.proofs.Order.{at-most→le, le-top, yes-of}
 
 pub clear-plus : (x : Float) → T (clear x) → T (le zeroF x)

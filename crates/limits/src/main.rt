@@ -1,4 +1,5 @@
-// Document 01's row R4 and its neighbours, on a plan that is made by entries: the 1,024th cutter enters and the 1,025th gets 2.
+// Document 01's row R4 and its neighbours, on a plan that is made by entries: the 1,024th cutter enters and the 1,025th
+// gets 2.
 
 // A sphere at 0 with radius 1, with n cutters, each a sphere at 0 with radius 0.5.
 fn sphere_args(args: &mut [u8], n: u32) {

@@ -1,4 +1,5 @@
--- What a loop over cutters or pieces needs, by induction on the list, and what lies past a table's last row, by its length. Assumes nothing.
+-- What a loop over cutters or pieces needs, by induction on the list, and what lies past a table's last row, by its
+-- length. Assumes nothing.
 use Prim.Native.Nat.{ℕ, _+_, _*_, _≤_}
 use mathlib.Core.Path.{_≡_, refl}
 use mathlib.Core.List.{List, [], _∷_, _++_}

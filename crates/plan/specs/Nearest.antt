@@ -1,5 +1,6 @@
--- "An object's distance starts at its primitive and takes `max` with minus each cutter's, in order. A distance that is not a number is never nearest.
--- `dist_mat` begins at `f32::MAX` and material 0, takes planes in order, then objects; only strictly less replaces." Definitions only.
+-- "An object's distance starts at its primitive and takes `max` with minus each cutter's, in order. A distance that is
+-- not a number is never nearest. `dist_mat` begins at `f32::MAX` and material 0, takes planes in order, then objects;
+-- only strictly less replaces." Definitions only.
 use mathlib.Core.Bool.{cond}
 use mathlib.Core.List.{List, [], _∷_}
 use lib.Ieee.{Float, binary32, ofBits, neg, lt}

@@ -1,4 +1,5 @@
--- What a row's words stand for: VIEWER.md's records, decoded from words (w) and floats (f, a NaN's bits a NaN) at the same places. Definitions only.
+-- What a row's words stand for: VIEWER.md's records, decoded from words (w) and floats (f, a NaN's bits a NaN) at the
+-- same places. Definitions only.
 use Prim.Native.Nat.{ℕ, _+_, _*_}
 use mathlib.Core.List.{List}
 use lib.ListN.{getD}

@@ -1,5 +1,6 @@
--- "256 objects, 16 planes, 64 materials, 16 lights; 8 cutters to one object or plane; 1,024 cutters in one table that all share": VIEWER.md's sections, in rows
--- of sixteen words. After the plan the table of a call has its arguments, and then the tree. Definitions only.
+-- "256 objects, 16 planes, 64 materials, 16 lights; 8 cutters to one object or plane; 1,024 cutters in one table that
+-- all share": VIEWER.md's sections, in rows of sixteen words. After the plan the table of a call has its arguments, and
+-- then the tree. Definitions only.
 use Prim.Native.Nat.{ℕ}
 
 pub record Section : Type 0 where
@@ -33,18 +34,27 @@ cutterPlaces = 1024
 abbrev pub cutsMost : ℕ
 cutsMost = 8
 
--- ---- a call's table: the plan's words, the arguments' row, the first word of the tree's nodes and of its order, the whole
+-- ---- a call's table: the plan, the arguments from a row on, a tree's nodes and order, and zeros to a whole row
 abbrev pub planWords : ℕ
 planWords = 22288
 
 abbrev pub argsRow : ℕ
 argsRow = 1393
 
+abbrev pub argsWords : ℕ
+argsWords = 144
+
 abbrev pub nodesFirst : ℕ
 nodesFirst = 22432
 
+abbrev pub nodesWords : ℕ
+nodesWords = 4599
+
 abbrev pub orderFirst : ℕ
 orderFirst = 27031
+
+abbrev pub orderPlaces : ℕ
+orderPlaces = 256
 
 abbrev pub tableRows : ℕ
 tableRows = 1706

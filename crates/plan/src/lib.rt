@@ -1,16 +1,29 @@
-// The plan: rows of sixteen words, each held as a whole number and as a float at the same place; its records, its pieces' distances, and the plain list.
+// The plan: rows of sixteen words, each held as a whole number and as a float at the same place; its records, its
+// pieces' distances, and the plain list.
 ghost use mathlib.Core.Path.{_≡_};
 ghost use Prim.Native.Nat.{_+_, _*_};
-ghost use Rattle.plan.specs.Records.{wordOf, floatOf, vecOf, noVec, noShape, noHead, materialAt, lightAt, lightIn, cutterAt, headAt};
+ghost use Rattle.plan.specs.Sections.{cutterRow};
+ghost use Rattle.plan.specs.Records.{wordOf, floatOf, vecOf, noVec, noShape, noHead, materialAt, lightAt};
+ghost use Rattle.plan.specs.Records.{lightIn, cutterAt, headAt};
 ghost use Rattle.plan.specs.Plan.{cutsBy, pieceAt, piecesFrom, planOf};
 ghost use Rattle.plan.specs.Nearest.{cutBy, carve, hitOf, closer, nearest, nothing, listHit};
 use sdf::Shape;
 use vec::Vec3;
 
-// What a call works on, in one table: the plan, its arguments, the nodes and the order of a tree. It is held twice, as words and as floats.
+// What a call works on, in one table: the plan, its arguments, the nodes and the order of a tree. It is held twice, as
+// words and as floats.
 pub type Words = [u32; 27296];
 
 pub type Floats = [f32; 27296];
+
+// The nodes and the order of a tree by themselves.
+pub type Nodes = [u32; 4599];
+
+pub type Order = [u32; 256];
+
+pub const NODES_WORDS: usize = 4599;
+
+pub const ORDER_WORDS: usize = 256;
 
 pub const ROWS: usize = 1706;
 
@@ -291,7 +304,7 @@ fn cut(d: f32, c: Cutter, p: Vec3) -> f32
 
 // The distance d with n cutters from a place on taken away.
 fn carve(ws: &Words, fs: &Floats, place: u32, n: u32, p: Vec3, d: f32) -> f32
-    ensures { λ r. ⌜ r ≡ carve (cutsBy (now (ws .entry)) (now (fs .entry)) (369 + place) n) p d ⌝ }
+    ensures { λ r. ⌜ r ≡ carve (cutsBy (now (ws .entry)) (now (fs .entry)) (cutterRow + place) n) p d ⌝ }
 {
     let mut left = d;
     let mut j: u32 = 0;

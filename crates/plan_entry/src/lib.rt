@@ -2,7 +2,7 @@
 // plan, or nothing changes.
 ghost use mathlib.Core.Path.{_≡_};
 ghost use Prim.Native.Nat.{_+_, _*_};
-ghost use Rattle.plan.specs.Sections.{materials, lights};
+ghost use Rattle.plan.specs.Sections.{materials, lights, cutterPlaces, argsRow};
 ghost use Rattle.plan.specs.Plan.{countOf};
 ghost use Rattle.plan_entry.specs.Entry.{addedOf, argWord, argCutsNumber, argsNumber, sectionOf, roomNumber};
 ghost use Rattle.plan_entry.specs.Entry.{pieceNumber, usedWords, usedWord, pieceWords, cutterWords, firstWord};
@@ -62,7 +62,7 @@ fn args_number(among: bool, ws: &Words, fs: &Floats, bytes: usize) -> u32
 
 // Whether n cutters more have places.
 fn places_left(s: Solids, n: u32) -> bool
-    ensures { λ r. ⌜ r ≡ leb (s .planes + (s .objects + n)) 1024 ⌝ }
+    ensures { λ r. ⌜ r ≡ leb (s .planes + (s .objects + n)) cutterPlaces ⌝ }
 {
     if s.planes > plan::CUTTERS as u64 {
         return false;
@@ -175,7 +175,7 @@ fn piece_words(ws: &Words, place: u32) -> [u32; 16]
 
 // The row of cutter j of the arguments.
 fn cutter_words(ws: &Words, j: u32) -> [u32; 16]
-    ensures { λ r. ⌜ r ≡ cutterWords (now (ws .entry)) (1394 + j) ⌝ }
+    ensures { λ r. ⌜ r ≡ cutterWords (now (ws .entry)) (argsRow + 1 + j) ⌝ }
 {
     let i = 16 * (plan::ARGS_ROW as usize + 1 + j as usize);
     let k = plan::word_in(ws, i);

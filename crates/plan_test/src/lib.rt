@@ -6,7 +6,7 @@ ghost use Prim.Native.Nat.{_+_};
 ghost use lib.Dec.{leb, eqb};
 ghost use Rattle.words.specs.Lists.{listFrom};
 ghost use Rattle.refusals.specs.Refusals.{lowestOf, noRoom};
-ghost use Rattle.plan.specs.Sections.{materials};
+ghost use Rattle.plan.specs.Sections.{materials, cutterPlaces};
 ghost use Rattle.plan.specs.Records.{lightIn};
 ghost use Rattle.plan.specs.Plan.{cutsBy, pieceAt, piecesFrom, countOf, planOf, planIn};
 ghost use Rattle.plan_test.specs.Numbers.{materialNumber, dark, lightNumber, cutterNumber, cutsNumber};
@@ -124,7 +124,7 @@ pub fn own_number(planes: bool, materials: u32, h: Head) -> u32
 
 // `before` is how many places the pieces before this one use.
 fn place_right(planes: bool, before: u64, place: u32, cutters: u32) -> bool
-    ensures { λ r. ⌜ r ≡ cond planes (eqb (place + (before + cutters)) 1024) (eqb place before) ⌝ }
+    ensures { λ r. ⌜ r ≡ cond planes (eqb (place + (before + cutters)) cutterPlaces) (eqb place before) ⌝ }
 {
     if planes {
         if before > plan::CUTTERS as u64 {
@@ -238,7 +238,7 @@ pub fn objects_number(ws: &Words, fs: &Floats) -> u32
 
 // Whether planes and objects together have no more cutters than there are places.
 fn fits(planes: u64, objects: u64) -> bool
-    ensures { λ r. ⌜ r ≡ leb (planes + objects) 1024 ⌝ }
+    ensures { λ r. ⌜ r ≡ leb (planes + objects) cutterPlaces ⌝ }
 {
     if planes > plan::CUTTERS as u64 {
         return false;

@@ -1,5 +1,5 @@
--- Which tests get the number 0: the lower of two, the lowest of a list, is 0 exactly when each is; and one more at the end of a list is one more `lower`.
--- By cases and by induction on the list. Assumes nothing.
+-- Which tests get the number 0: the lower of two, the lowest of a list, is 0 exactly when each is; and one more at the
+-- end of a list is one more `lower`. By cases and by induction on the list. Assumes nothing.
 use Prim.Native.Nat.{ℕ, zero, suc, _+_, min}
 use mathlib.Core.Path.{_≡_, refl, sym, _∙_, ap}
 use mathlib.Core.Logic.{_↔_}

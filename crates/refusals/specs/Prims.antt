@@ -1,4 +1,5 @@
--- "Kinds count 0 to 6, and words stand, in the source's order", and what a primitive's numbers must be. Definitions only.
+-- "Kinds count 0 to 6, and words stand, in the source's order", and what a primitive's numbers must be. Definitions
+-- only.
 use Prim.Native.Nat.{ℕ}
 use mathlib.Core.Bool.{Bool, true, false, not, cond, _&&_}
 use lib.Dec.{leb, eqb}
@@ -12,8 +13,8 @@ use Rattle.sdf.specs.declared.Shape.the-variants.{Sphere, RoundBox, Plane, Caps
 use Rattle.refusals.specs.Refusals.{badNumber, noExtent, unless, lower}
 use Rattle.refusals.specs.Ranges.{far, steep, within, withinUpTo, coordinates, radius}
 
--- a kind and eight floats: a the first three, b the next three, then u and v. sphere c, r; round box c, b, r; plane n, h; capsule a, b, r;
--- torus c, major, minor; cylinder a, b, r; cone a, b, ra, rb
+-- a kind and eight floats: a the first three, b the next three, then u and v. sphere c, r; round box c, b, r; plane n,
+-- h; capsule a, b, r; torus c, major, minor; cylinder a, b, r; cone a, b, ra, rb
 unfoldable pub shapeOf : ℕ → Vec3 → Vec3 → Float → Float → Shape
 shapeOf k a b u v =
     cond (eqb k 0) (Sphere a (b .x))

@@ -1,6 +1,7 @@
--- "Every given number is finite. Magnitudes: coordinates, radii, blend and `h` to 10,000 (radii, half sizes and blend not negative); a plane's normal, ray
--- directions, shading normals and views to 1.5 a component; ray origins to 20,000; query points to 200,000. 10,000 is taken; the next float up is refused."
--- Definitions only; that the limits are these numbers is a theorem of proofs/Limits.antt.
+-- "Every given number is finite. Magnitudes: coordinates, radii, blend and `h` to 10,000 (radii, half sizes and blend
+-- not negative); a plane's normal, ray directions, shading normals and views to 1.5 a component; ray origins to 20,000;
+-- query points to 200,000. 10,000 is taken; the next float up is refused." Definitions only; that the limits are these
+-- numbers is a theorem of proofs/Limits.antt.
 use mathlib.Core.Bool.{Bool, _&&_}
 use lib.Ieee.{Float, binary32, ofBits}
 use Rattle.scalar.specs.F32.{f0}

@@ -1,4 +1,5 @@
--- "Numbers sent back. Each number is tested only where it applies; where several apply the lowest is sent." Definitions only.
+-- "Numbers sent back. Each number is tested only where it applies; where several apply the lowest is sent." Definitions
+-- only.
 use Prim.Native.Nat.{ℕ, min}
 use mathlib.Core.Bool.{Bool, cond}
 use mathlib.Core.List.{List, [], _∷_}

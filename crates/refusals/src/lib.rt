@@ -26,7 +26,8 @@ pub const NO_TREE: u32 = 8;
 
 pub const AT_LIGHT: u32 = 9;
 
-// The limits of given numbers: coordinates, radii, blend and emission; a direction's components; query points; any finite number.
+// The limits of given numbers: coordinates, radii, blend and emission; a direction's components; query points; any
+// finite number.
 pub const FAR: f32 = 10000.0;
 
 pub const STEEP: f32 = 1.5;

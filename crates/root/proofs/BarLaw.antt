@@ -1,5 +1,6 @@
--- The root of x is at least b exactly where x is at least `bar b`, the square of the midpoint of b and the f32 just below, worked out in f64, which holds it.
--- So a search may compare squares of distances and take no root. Assumes nothing.
+-- The root of x is at least b exactly where x is at least `bar b`, the square of the midpoint of b and the f32 just
+-- below, worked out in f64, which holds it. So a search may compare squares of distances and take no root. Assumes
+-- nothing.
 use mathlib.Core.Path.{_≡_, refl, sym, ap, _∙_, subst}
 use Prim.Native.Nat.{ℕ, zero, suc, _+_, _-_, _*_, _/_, _%_, _^_, _≤_, _<_}
 use native.Mathlib.Nat.{le-trans, le-of-eq, lt-of-lt-of-le, mul-le-mul, mul-le-mul-right, le-of-mul-le-mul-right, mul-pos, mul-one, mul-assoc, mul-comm, mul-left-comm, mul-mul-mul-comm, add-mul, zero-mul, zero-div, zero-lt-suc}
@@ -14,7 +15,7 @@ use lib.Ieee.Fits.{up-pos, down-pos}
 use lib.Ieee.Order.{le-of-values}
 use lib.Ieee.Scale.{round-same}
 use Rattle.root.specs.Root.{units, plain, val, mid, rootOf}
-use Rattle.root.specs.Bar.{below, middle, bar, barOf}
+use Rattle.root.specs.Inside.Bar.{below, middle, bar, barOf}
 use Rattle.root.proofs.Patterns.{mid-short, Reached}
 use Rattle.root.proofs.Laws.{bits-value, plain-bits, plain-small, root-plain}
 use Rattle.root.proofs.Order.{plain-value, le→fractions, units→le, root-reaches}

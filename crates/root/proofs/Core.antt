@@ -1,4 +1,5 @@
--- The arithmetic of `root_bits`: n units are N * 2 ^ (j + j) quarters of 2 ^ -149 .. , and half the root of N, rounded, gives the bits of the root. Assumes nothing.
+-- The arithmetic of `root_bits`: n units are N * 2 ^ (j + j) quarters of 2 ^ -149 .. , and half the root of N, rounded,
+-- gives the bits of the root. Assumes nothing.
 use mathlib.Core.Path.{_≡_, refl, sym, ap, _∙_, subst}
 use Prim.Native.Nat.{ℕ, zero, suc, _+_, _-_, _*_, _/_, _%_, _^_, _≤_, _<_}
 use native.Mathlib.Nat.{le-trans, le-refl, le-of-eq, lt-of-lt-of-le, lt-of-le-of-lt, lt-of-not-le, not-le-of-lt, eq-or-lt-of-le, add-le-add, mul-le-mul, mul-le-mul-right, mul-lt-mul-of-pos-right, pow-succ', mul-assoc, mul-mul-mul-comm, mul-one, zero-mul}
@@ -7,7 +8,7 @@ use mathlib.Core.Logic.{_⊎_, inl, inr}
 use lib.Dec.{T, leb, lit≤, lit<, leb→le}
 use lib.Pow.{pow-pos, pow-add, pow-mono}
 use Rattle.root.specs.Root.{fields, val, mid, rootBits}
-use Rattle.root.specs.Steps.{expo, digs, Scaled}
+use Rattle.root.specs.Inside.Steps.{expo, digs, Scaled}
 use Rattle.root.proofs.Patterns.{gap, val-suc, val-mono, val-lt, Found, root-unique, val-small}
 
 -- ---- the bits j * 2 ^ 23 + a, for an a of 24 digits or 2 ^ 24, count a * 2 ^ j units

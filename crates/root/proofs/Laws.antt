@@ -1,4 +1,5 @@
--- What `rootOf` gives is the root: nearer to √x than every other f32 is. No other f32 is. And it grows with x. Assumes nothing.
+-- What `rootOf` gives is the root: nearer to √x than every other f32 is. No other f32 is. And it grows with x. Assumes
+-- nothing.
 use mathlib.Core.Path.{_≡_, refl, sym, ap, _∙_, subst}
 use Prim.Native.Nat.{ℕ, zero, suc, _+_, _-_, _*_, _/_, _%_, _^_, _≤_, _<_}
 use native.Mathlib.Nat.{zero-mul, zero-div, pow-succ', le-trans, le-of-eq, lt-of-lt-of-le, lt-of-not-le, not-le-of-lt, lt-irrefl, lt-trans, le-antisymm, add-comm, mul-one, mul-div-cancel, mod-eq-of-lt}

@@ -1,4 +1,5 @@
--- NaN patterns and NaN tests at binary32: which words are a NaN's, and that only a NaN differs from itself. By the cases of a value. Assumes nothing.
+-- NaN patterns and NaN tests at binary32: which words are a NaN's, and that only a NaN differs from itself. By the
+-- cases of a value. Assumes nothing.
 use Prim.Native.Nat.{ℕ, _%_, _<_, _≤_}
 use mathlib.Core.Bool.{Bool, true, false, not}
 use mathlib.Core.Path.{_≡_, refl, sym, _∙_, ap, subst}

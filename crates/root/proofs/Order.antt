@@ -1,5 +1,5 @@
--- The root grows with x, and it is at least b exactly where x is at least the square of the midpoint of b and the f32 just below, which an f64 holds.
--- Assumes nothing.
+-- The root grows with x, and it is at least b exactly where x is at least the square of the midpoint of b and the f32
+-- just below, which an f64 holds. Assumes nothing.
 use mathlib.Core.Path.{_≡_, refl, sym, ap, _∙_, subst}
 use Prim.Native.Nat.{ℕ, zero, suc, _+_, _-_, _*_, _/_, _%_, _^_, _≤_, _<_}
 use native.Mathlib.Nat.{le-trans, le-of-eq, le-of-lt, le-refl, not-le-of-lt, mul-le-mul-right, le-of-mul-le-mul-right, zero-mul}

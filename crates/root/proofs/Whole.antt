@@ -10,7 +10,7 @@ use lib.Dec.{T, ltb, eqb, ltb→lt, lt→ltb, eqb→eq, eqb-refl, not-T, lit<}
 use lib.Ieee.{Float, nan, inf, fin, binary32, binary64, up, down, add, mul, div, lt, eq, le, ofBits, toBits, fits, isNan, nanBits}
 use lib.Ieee.Bits.{nanBits-above, ofBits-toBits}
 use lib.Ieee.Fits.{up-pos, down-pos, and-i, and-l, fits-widens}
-use Rattle.root.specs.Bar.{below, bar, barOf}
+use Rattle.root.specs.Inside.Bar.{below, bar, barOf}
 use Rattle.root.specs.Root.{units, plain, val, rootBits, rootOf}
 use Rattle.root.proofs.Nans.{unequal-nan}
 use Rattle.root.proofs.Laws.{plain-units, plain-small, root-opened}

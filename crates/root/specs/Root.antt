@@ -1,6 +1,7 @@
--- "Root: the correctly rounded one of IEEE 754-2008, nearest, ties to even, stated over squares of whole numbers." Definitions only.
--- Every finite f32 is a whole number of the smallest value above zero, 2 ^ -149 (`units`), so the nearest f32 to a root is said over squares of whole numbers:
--- with u, v and w units in x, r and y, √x is nearer to r than to y, for r below y, where √x < (r + y) / 2, that is where 4 * u * 2 ^ 149 < (v + w) ^ 2.
+-- "Root: the correctly rounded one of IEEE 754-2008, nearest, ties to even, stated over squares of whole numbers."
+-- Definitions only. Every finite f32 is a whole number of the smallest value above zero, 2 ^ -149 (`units`), so the
+-- nearest f32 to a root is said over squares of whole numbers: with u, v and w units in x, r and y, √x is nearer to r
+-- than to y, for r below y, where √x < (r + y) / 2, that is where 4 * u * 2 ^ 149 < (v + w) ^ 2.
 use Prim.Native.Nat.{ℕ, zero, suc, _+_, _-_, _*_, _/_, _%_, _^_, _<_}
 use mathlib.Core.Bool.{Bool, true, false, cond}
 use lib.Dec.{T, leb}
@@ -22,8 +23,10 @@ plain (fin false m e) = fits binary32 (fin false m e)
 -- r is the root of x: it is nearer to √x than every other f32 is
 pub record IsRoot (x r : Float) : Type 0 where
   pub held : T (plain r)
-  pub under : (y : Float) → T (plain y) → units r < units y → units x * 2 ^ 151 < (units r + units y) * (units r + units y)
-  pub over : (y : Float) → T (plain y) → units y < units r → (units r + units y) * (units r + units y) < units x * 2 ^ 151
+  pub under : (y : Float) → T (plain y) → units r < units y
+      → units x * 2 ^ 151 < (units r + units y) * (units r + units y)
+  pub over : (y : Float) → T (plain y) → units y < units r
+      → (units r + units y) * (units r + units y) < units x * 2 ^ 151
 
 -- ---- the root, worked out
 -- the units in the f32 with the bits p, the sign clear: the exponent's field e, and the digits' field t
@@ -38,7 +41,8 @@ val p = fields (p / 8388608) (p % 8388608)
 abbrev pub mid : ℕ → ℕ
 mid p = val (p - 1) + val p
 
--- The largest p from b up and below b + 2 ^ k with `mid p` at most twice the root of n units, where b is one: k bits, the highest first.
+-- The largest p from b up and below b + 2 ^ k with `mid p` at most twice the root of n units, where b is one: k bits,
+-- the highest first.
 unfoldable pub seek : ℕ → ℕ → ℕ → ℕ
 seek zero b n = b
 seek (suc k) b n = seek k (cond (leb (mid (b + 2 ^ k) * mid (b + 2 ^ k)) (n * 2 ^ 151)) (b + 2 ^ k) b) n

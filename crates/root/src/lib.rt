@@ -2,8 +2,8 @@
 ghost use mathlib.Core.Path.{_≡_};
 ghost use Rattle.root.specs.Root.{val, rootBits, rootOf};
 ghost use lib.Ieee.{le};
-ghost use Rattle.root.specs.Bar.{barOf};
-ghost use Rattle.root.specs.Steps.{expo, digs, Scaled};
+ghost use Rattle.root.specs.Inside.Bar.{barOf};
+ghost use Rattle.root.specs.Inside.Steps.{expo, digs, Scaled};
 ghost use Prim.Native.Nat.{ℕ, _+_, _*_, _/_, _%_, _<_, _≤_};
 
 // A guess g at the root of n, mended by a step of Newton's method. Nothing rests on the guesses but time.

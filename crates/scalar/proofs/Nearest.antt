@@ -1,5 +1,5 @@
--- Each constant is the f32 nearest to its decimal: twice the decimal lies between the sums with the f32 below and with the f32 above, over whole numbers
--- of 2 ^ -149. One test, computed over the whole table. Assumes nothing.
+-- Each constant is the f32 nearest to its decimal: twice the decimal lies between the sums with the f32 below and with
+-- the f32 above, over whole numbers of 2 ^ -149. One test, computed over the whole table. Assumes nothing.
 use Prim.Native.Nat.{ℕ, suc, _*_, _%_, _^_}
 use mathlib.Core.Path.{_≡_, refl}
 use mathlib.Core.Bool.{Bool, true, false, _&&_, Bool·beq}

@@ -1,4 +1,5 @@
--- Magnitude and sign by tests with zero: each test's outcome says which case of `absOf` and `signumOf` it is. By the cases of a value. Assumes nothing.
+-- Magnitude and sign by tests with zero: each test's outcome says which case of `absOf` and `signumOf` it is. By the
+-- cases of a value. Assumes nothing.
 use mathlib.Core.Path.{_≡_, refl, sym, ap, _∙_, subst}
 use Prim.Native.Nat.{ℕ, zero, suc, _+_, _*_, _/_, _^_, _≤_, _<_}
 use native.Mathlib.Nat.{not-le-of-lt, lt-trans, mul-pos, zero-lt-suc, zero-mul}

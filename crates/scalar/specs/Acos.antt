@@ -1,12 +1,14 @@
--- "Arc cosine, for x from -1 to 1: for x >= 0 it is root(1-x) times the polynomial of degree seven of Abramowitz and Stegun 4.4.46, by Horner from the top,
--- coefficients each the nearest f32; for x < 0, pi's f32 less the value at -x." Definitions only.
+-- "Arc cosine, for x from -1 to 1: for x >= 0 it is root(1-x) times the polynomial of degree seven of Abramowitz and
+-- Stegun 4.4.46, by Horner from the top, coefficients each the nearest f32; for x < 0, pi's f32 less the value at -x."
+-- Definitions only.
 use Prim.Native.Nat.{ℕ}
 use mathlib.Core.Bool.{cond}
 use lib.Ieee.{Float, binary32, ofBits, neg, le}
 use Rattle.root.specs.Root.{rootOf}
 use Rattle.scalar.specs.F32.{_⊕_, _⊖_, _⊗_, f0, f1, fpi}
 
--- a0 to a7 are 1.5707963050, -0.2145988016, 0.0889789874, -0.0501743046, 0.0308918810, -0.0170881256, 0.0066700901, -0.0012624911
+-- a0 to a7 are 1.5707963050, -0.2145988016, 0.0889789874, -0.0501743046, 0.0308918810, -0.0170881256, 0.0066700901,
+-- -0.0012624911
 abbrev pub a0 : Float
 a0 = ofBits binary32 0x3fc9_0fda
 

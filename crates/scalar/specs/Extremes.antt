@@ -1,5 +1,5 @@
--- "`max` of two numbers takes the first if it is greater, else the second; one that is not a number yields to the other. `min` likewise; `clamp` as Rust's."
--- Definitions only.
+-- "`max` of two numbers takes the first if it is greater, else the second; one that is not a number yields to the
+-- other. `min` likewise; `clamp` as Rust's." Definitions only.
 use mathlib.Core.Bool.{cond}
 use lib.Ieee.{Float, lt, eq}
 

@@ -1,5 +1,6 @@
--- "f32, each operation rounded once, never fused." The four operations as operators, and the constants by their bits, each with its decimal.
--- Definitions only; that each constant is the f32 nearest to its decimal is a theorem of proofs/Nearest.antt.
+-- "f32, each operation rounded once, never fused." The four operations as operators, and the constants by their bits,
+-- each with its decimal. Definitions only; that each constant is the f32 nearest to its decimal is a theorem of
+-- proofs/Nearest.antt.
 use lib.Ieee.{Float, binary32, add, sub, mul, div, ofBits}
 
 infixl 60 _⊕_

@@ -1,4 +1,5 @@
--- Ranges of given numbers: a NaN is in none, and an infinity in none with finite ends. Minus zero counts as zero. Definitions only.
+-- Ranges of given numbers: a NaN is in none, and an infinity in none with finite ends. Minus zero counts as zero.
+-- Definitions only.
 use mathlib.Core.Bool.{Bool, _&&_}
 use lib.Ieee.{Float, neg, le}
 

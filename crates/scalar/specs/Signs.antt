@@ -1,4 +1,5 @@
--- Magnitude and sign, as Rust's `abs` and `signum`: a NaN keeps being one, and minus zero has the sign of what is below zero. Definitions only.
+-- Magnitude and sign, as Rust's `abs` and `signum`: a NaN keeps being one, and minus zero has the sign of what is below
+-- zero. Definitions only.
 use Prim.Native.Nat.{ℕ}
 use mathlib.Core.Bool.{Bool, true, false}
 use lib.IntN.{pos}

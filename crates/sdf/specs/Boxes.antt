@@ -1,4 +1,5 @@
--- "An object's box is `bounds()` widened by blend, its centre half the sum of the corners. Box distance is `aabb_dist`." Definitions only.
+-- "An object's box is `bounds()` widened by blend, its centre half the sum of the corners. Box distance is
+-- `aabb_dist`." Definitions only.
 use lib.Ieee.{Float}
 use Rattle.scalar.specs.F32.{_⊕_, f0, fhalf}
 use Rattle.scalar.specs.Extremes.{fmax}

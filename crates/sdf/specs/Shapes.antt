@@ -1,4 +1,5 @@
--- "The seven kinds are source document 002's formulas": sdf.rs, each operation in the order written there. Definitions only.
+-- "The seven kinds are source document 002's formulas": sdf.rs, each operation in the order written there. Definitions
+-- only.
 use mathlib.Core.Bool.{cond, _&&_}
 use lib.Ieee.{Float, binary32, ofBits, neg, lt}
 use Rattle.root.specs.Root.{rootOf}

@@ -1,6 +1,7 @@
 // Signed distances and boxes of the seven shapes, line for line as the source's sdf.rs has them.
 ghost use mathlib.Core.Path.{_≡_};
-ghost use Rattle.sdf.specs.Shapes.{sphere, roundBox, plane, capsule, torus, beyond, cylinderSquare, cylinderBody, cylinder, coneEnd, coneFoot, coneSign, coneAt, coneBody, cone, distOf};
+ghost use Rattle.sdf.specs.Shapes.{sphere, roundBox, plane, capsule, torus, beyond, cylinderSquare, cylinderBody};
+ghost use Rattle.sdf.specs.Shapes.{cylinder, coneEnd, coneFoot, coneSign, coneAt, coneBody, cone, distOf};
 ghost use Rattle.sdf.specs.Boxes.{spread, around, boundsOf, widened, boxOf, centreOf, boxDist};
 use vec::Vec3;
 

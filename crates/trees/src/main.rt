@@ -1,4 +1,5 @@
-// Document 01's rows R1 to R3, on plans that are made by entries: which trees are built, which is too deep, and what the tree's search answers.
+// Document 01's rows R1 to R3, on plans that are made by entries: which trees are built, which is too deep, and what
+// the tree's search answers.
 
 // The bits of the f32 nearest to 1.25 to the power k - 26.
 fn power(k: u32) -> u32 {

@@ -1,4 +1,5 @@
--- "`dot` is (xx + yy) + zz, length is the root of `dot(self)`, normalise multiplies by 1/length, lerp is as in the pinned version." Definitions only.
+-- "`dot` is (xx + yy) + zz, length is the root of `dot(self)`, normalise multiplies by 1/length, lerp is as in the
+-- pinned version." Definitions only.
 use Prim.Native.Nat.{ℕ}
 use mathlib.Core.Bool.{cond}
 use lib.Dec.{eqb}

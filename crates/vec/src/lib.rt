@@ -1,7 +1,8 @@
 // Three f32 by value, with the operations of glam that the source uses.
 ghost use mathlib.Core.Path.{_≡_};
 ghost use lib.Ieee.{neg};
-ghost use Rattle.vec.specs.Vec.{vsplat, vadd, vsub, vmul, vscale, vover, vneg, vdot, vcross, vlength, vnormalize, vlerp, vmin, vmax, vabs, vaxis};
+ghost use Rattle.vec.specs.Vec.{vsplat, vadd, vsub, vmul, vscale, vover, vneg, vdot, vcross, vlength, vnormalize};
+ghost use Rattle.vec.specs.Vec.{vlerp, vmin, vmax, vabs, vaxis};
 
 pub struct Vec3 {
     pub x: f32,

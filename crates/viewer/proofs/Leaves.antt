@@ -1,4 +1,5 @@
--- What an entry, a build and an offer on loaded tables leave is what the promise says of the lent bytes. One law for each kind of call. Assumes nothing.
+-- What an entry, a build and an offer on loaded tables leave is what the promise says of the lent bytes. One law for
+-- each kind of call. Assumes nothing.
 use Prim.Native.Nat.{ℕ}
 use mathlib.Core.Path.{_≡_, refl, sym, _∙_, ap}
 use mathlib.Core.Bool.{Bool, true, false, cond}

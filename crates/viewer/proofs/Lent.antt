@@ -1,4 +1,5 @@
--- A call on loaded tables is the call on what the lent bytes stand for. One law for every call of a kind. Assumes nothing.
+-- A call on loaded tables is the call on what the lent bytes stand for. One law for every call of a kind. Assumes
+-- nothing.
 use Prim.Native.Nat.{ℕ}
 use mathlib.Core.Path.{_≡_, ap, _∙_, subst}
 use mathlib.Core.List.{List}

@@ -13,7 +13,8 @@ use Rattle.bvh_build.specs.Tables.{sizeOf, nodesWith, orderWith}
 use Rattle.reply.specs.Reply.{oneWord, replyOf}
 use Rattle.wire.specs.Lent.{planTable, askTable}
 use Rattle.wire.specs.Sent.{tablesBefore, treeTablesBefore, Sent}
-use Rattle.bemitondry.specs.Trees.{noNodes, noOrder, buildNumber, offerNumber, judgedTree, sizeIn, offeredNodes, offeredOrder}
+use Rattle.bemitondry.specs.Trees.{noNodes, noOrder, buildNumber, offerNumber}
+use Rattle.bemitondry.specs.Trees.{judgedTree, sizeIn, offeredNodes, offeredOrder}
 
 -- "a build that ends in 7 leaves node and order tables all zero"
 unfoldable pub buildStores : ℕ → Bool
@@ -23,10 +24,13 @@ abbrev pub builtWords : ℕ → List ℕ → List ℕ → List ℕ
 builtWords number tree none = cond (eqb number 0) tree none
 
 -- the number of a build of the plan p, its reply, and both tables
-pub record BuildOn (number : ℕ) (p : Plan) (nodes order out : List ℕ) (n : ℕ) (nodes′ order′ out′ : List ℕ) : Type 0 where
+pub record BuildOn (number : ℕ) (p : Plan) (nodes order out : List ℕ) (n : ℕ) (nodes′ order′ out′ : List ℕ)
+    : Type 0 where
   pub sent : Sent (replyOf number (oneWord (sizeOf p))) out n out′
-  pub nodes-is : nodes′ ≡ cond (buildStores number) (withWords nodes (builtWords number (nodesWith p noNodes) noNodes)) nodes
-  pub order-is : order′ ≡ cond (buildStores number) (withWords order (builtWords number (orderWith p noOrder) noOrder)) order
+  pub nodes-is
+      : nodes′ ≡ cond (buildStores number) (withWords nodes (builtWords number (nodesWith p noNodes) noNodes)) nodes
+  pub order-is
+      : order′ ≡ cond (buildStores number) (withWords order (builtWords number (orderWith p noOrder) noOrder)) order
 
 abbrev pub buildPlan : List ℕ → Plan
 buildPlan plan = planOf (planTable 0 plan []) (seen (planTable 0 plan []))
@@ -38,7 +42,8 @@ BuildSent plan nodes order out n nodes′ order′ out′ =
     (buildPlan plan) nodes order out n nodes′ order′ out′
 
 -- ---- "An offered tree that is refused leaves the standing one"; w is the table that is loaded, the tree offered in it
-pub record OfferOn (number : ℕ) (w : List ℕ) (f : List Float) (nodes order out : List ℕ) (n : ℕ) (nodes′ order′ out′ : List ℕ) : Type 0 where
+pub record OfferOn (number : ℕ) (w : List ℕ) (f : List Float) (nodes order out : List ℕ) (n : ℕ)
+    (nodes′ order′ out′ : List ℕ) : Type 0 where
   pub sent : Sent (replyOf number (oneWord (sizeIn (judgedTree w f)))) out n out′
   pub nodes-is : nodes′ ≡ cond (eqb number 0) (withWords nodes (offeredNodes w f)) nodes
   pub order-is : order′ ≡ cond (eqb number 0) (withWords order (offeredOrder w f)) order
@@ -48,10 +53,12 @@ offerTable plan given ranks = askTable 0 plan given ranks 1 []
 
 abbrev pub offerBefore : List ℕ → List ℕ → List ℕ → List ℕ → List ℕ → List ℕ → ℕ
 offerBefore plan nodes order given ranks out =
-    lower (treeTablesBefore (length plan) (length nodes) (length order) 0 0 (length out)) (tablesBefore (length given) (length ranks))
+    lower (treeTablesBefore (length plan) (length nodes) (length order) 0 0 (length out))
+    (tablesBefore (length given) (length ranks))
 
 abbrev pub OfferSent : List ℕ → List ℕ → List ℕ → List ℕ → List ℕ → List ℕ → ℕ → List ℕ → List ℕ → List ℕ → Type 0
 OfferSent plan nodes order given ranks out n nodes′ order′ out′ =
     OfferOn
-    (offerNumber (offerBefore plan nodes order given ranks out) (offerTable plan given ranks) (seen (offerTable plan given ranks)))
+    (offerNumber (offerBefore plan nodes order given ranks out) (offerTable plan given ranks)
+    (seen (offerTable plan given ranks)))
     (offerTable plan given ranks) (seen (offerTable plan given ranks)) nodes order out n nodes′ order′ out′

@@ -1,4 +1,5 @@
-// The calls that the Rust viewer makes, on bytes: what is lent is loaded, the call made, and what it leaves stored and sent.
+// The calls that the Rust viewer makes, on bytes: what is lent is loaded, the call made, and what it leaves stored and
+// sent.
 ghost use mathlib.Core.Path.{_≡_};
 ghost use lib.ListN.{length};
 ghost use Rattle.wire.specs.Sent.{Sent};
@@ -9,7 +10,8 @@ ghost use Rattle.viewer.specs.Trees.{buildStores, BuildSent, OfferSent};
 
 #[no_mangle]
 pub extern "C" fn viewer_root(args: &[u8], out: &mut [u8]) -> u32
-    ensures { λ n. ⌜ Sent (rootLent (now (args .entry)) (length (now (out .entry)))) (now (out .entry)) n (now (out .exit)) ⌝ }
+    ensures { λ n. ⌜ Sent (rootLent (now (args .entry)) (length (now (out .entry)))) (now (out .entry)) n
+        (now (out .exit)) ⌝ }
 {
     let n = wire::args_before(4, args.len(), out.len());
     let a = wire::lent(args, 4);
@@ -18,7 +20,8 @@ pub extern "C" fn viewer_root(args: &[u8], out: &mut [u8]) -> u32
 
 #[no_mangle]
 pub extern "C" fn viewer_acos(args: &[u8], out: &mut [u8]) -> u32
-    ensures { λ n. ⌜ Sent (acosLent (now (args .entry)) (length (now (out .entry)))) (now (out .entry)) n (now (out .exit)) ⌝ }
+    ensures { λ n. ⌜ Sent (acosLent (now (args .entry)) (length (now (out .entry)))) (now (out .entry)) n
+        (now (out .exit)) ⌝ }
 {
     let n = wire::args_before(4, args.len(), out.len());
     let a = wire::lent(args, 4);
@@ -47,7 +50,8 @@ pub extern "C" fn viewer_prim_dist(args: &[u8], out: &mut [u8]) -> u32
 #[no_mangle]
 pub extern "C" fn viewer_prim_bounds(args: &[u8], out: &mut [u8]) -> u32
     ensures { λ n.
-        ⌜ Sent (primBoundsLent (now (args .entry)) (length (now (out .entry)))) (now (out .entry)) n (now (out .exit)) ⌝ }
+        ⌜ Sent (primBoundsLent (now (args .entry)) (length (now (out .entry)))) (now (out .entry)) n
+        (now (out .exit)) ⌝ }
 {
     let n = wire::args_before(36, args.len(), out.len());
     let a = wire::lent(args, 36);
@@ -77,8 +81,8 @@ pub extern "C" fn viewer_query(
         (length (now (out .entry))))
         (now (out .entry)) n (now (out .exit)) ⌝ }
 {
-    let mut ws = [0u32; 27296];
-    let mut fs = [0.0f32; 27296];
+    let mut ws = [0u32; plan::TABLE];
+    let mut fs = [0.0f32; plan::TABLE];
     wire::load_ask(20, plan, nodes, order, tree, args, &mut ws, &mut fs);
     let n = wire::ask_before(
         20,
@@ -107,8 +111,8 @@ pub extern "C" fn viewer_dist_mat(
         (length (now (out .entry))))
         (now (out .entry)) n (now (out .exit)) ⌝ }
 {
-    let mut ws = [0u32; 27296];
-    let mut fs = [0.0f32; 27296];
+    let mut ws = [0u32; plan::TABLE];
+    let mut fs = [0.0f32; plan::TABLE];
     wire::load_ask(12, plan, nodes, order, tree, args, &mut ws, &mut fs);
     let n = wire::ask_before(
         12,
@@ -128,8 +132,8 @@ pub extern "C" fn viewer_add_material(plan: &mut [u8], args: &[u8], out: &mut [u
         ⌜ MaterialSent (now (plan .entry)) (now (args .entry)) (now (out .entry)) n (now (plan .exit))
         (now (out .exit)) ⌝ }
 {
-    let mut ws = [0u32; 27296];
-    let mut fs = [0.0f32; 27296];
+    let mut ws = [0u32; plan::TABLE];
+    let mut fs = [0.0f32; plan::TABLE];
     wire::load_plan(20, plan, args, &mut ws, &mut fs);
     let n = wire::plan_before(plan.len(), 20, args.len(), out.len());
     let r = bemitondry::add_material(n, &mut ws, &fs);
@@ -143,8 +147,8 @@ pub extern "C" fn viewer_add_light(plan: &mut [u8], args: &[u8], out: &mut [u8])
         ⌜ LightSent (now (plan .entry)) (now (args .entry)) (now (out .entry)) n (now (plan .exit))
         (now (out .exit)) ⌝ }
 {
-    let mut ws = [0u32; 27296];
-    let mut fs = [0.0f32; 27296];
+    let mut ws = [0u32; plan::TABLE];
+    let mut fs = [0.0f32; plan::TABLE];
     wire::load_plan(60, plan, args, &mut ws, &mut fs);
     let n = wire::plan_before(plan.len(), 60, args.len(), out.len());
     let r = bemitondry::add_light(n, &mut ws, &fs);
@@ -158,8 +162,8 @@ pub extern "C" fn viewer_add_plane(plan: &mut [u8], args: &[u8], out: &mut [u8])
         ⌜ PlaneSent (now (plan .entry)) (now (args .entry)) (now (out .entry)) n (now (plan .exit))
         (now (out .exit)) ⌝ }
 {
-    let mut ws = [0u32; 27296];
-    let mut fs = [0.0f32; 27296];
+    let mut ws = [0u32; plan::TABLE];
+    let mut fs = [0.0f32; plan::TABLE];
     wire::load_plan(64, plan, args, &mut ws, &mut fs);
     let n = wire::plan_before(plan.len(), 64, args.len(), out.len());
     let r = bemitondry::add_piece(n, true, &mut ws, &fs, args.len());
@@ -179,8 +183,8 @@ pub extern "C" fn viewer_add_object(
         ⌜ ObjectSent (now (plan .entry)) (now (nodes .entry)) (now (order .entry)) (now (args .entry))
         (now (out .entry)) n (now (plan .exit)) (now (nodes .exit)) (now (order .exit)) (now (out .exit)) ⌝ }
 {
-    let mut ws = [0u32; 27296];
-    let mut fs = [0.0f32; 27296];
+    let mut ws = [0u32; plan::TABLE];
+    let mut fs = [0.0f32; plan::TABLE];
     wire::load_plan(64, plan, args, &mut ws, &mut fs);
     let n = wire::tree_tables_before(
         plan.len(),
@@ -218,12 +222,12 @@ pub extern "C" fn viewer_build(
         ⌜ BuildSent (now (plan .entry)) (now (nodes .entry)) (now (order .entry)) (now (out .entry)) n
         (now (nodes .exit)) (now (order .exit)) (now (out .exit)) ⌝ }
 {
-    let mut ws = [0u32; 27296];
-    let mut fs = [0.0f32; 27296];
+    let mut ws = [0u32; plan::TABLE];
+    let mut fs = [0.0f32; plan::TABLE];
     wire::load_plan(0, plan, wire::none(plan), &mut ws, &mut fs);
     let n = wire::tree_tables_before(plan.len(), nodes.len(), order.len(), 0, 0, out.len());
-    let mut nw = [0u32; 4599];
-    let mut ow = [0u32; 256];
+    let mut nw = [0u32; plan::NODES_WORDS];
+    let mut ow = [0u32; plan::ORDER_WORDS];
     let r = bemitondry::build(n, &ws, &fs, &mut nw, &mut ow);
     let stores = build_stores(r.number);
     wire::store_nodes(stores, &nw, nodes);
@@ -245,15 +249,15 @@ pub extern "C" fn viewer_offer(
         ⌜ OfferSent (now (plan .entry)) (now (nodes .entry)) (now (order .entry)) (now (given .entry))
         (now (ranks .entry)) (now (out .entry)) n (now (nodes .exit)) (now (order .exit)) (now (out .exit)) ⌝ }
 {
-    let mut ws = [0u32; 27296];
-    let mut fs = [0.0f32; 27296];
+    let mut ws = [0u32; plan::TABLE];
+    let mut fs = [0.0f32; plan::TABLE];
     wire::load_ask(0, plan, given, ranks, 1, wire::none(plan), &mut ws, &mut fs);
     let n = refusals::lower(
         wire::tree_tables_before(plan.len(), nodes.len(), order.len(), 0, 0, out.len()),
         wire::tables_before(given.len(), ranks.len()),
     );
-    let mut nw = [0u32; 4599];
-    let mut ow = [0u32; 256];
+    let mut nw = [0u32; plan::NODES_WORDS];
+    let mut ow = [0u32; plan::ORDER_WORDS];
     let r = bemitondry::offer(n, &ws, &fs, &mut nw, &mut ow);
     wire::store_nodes(r.number == 0, &nw, nodes);
     wire::store_order(r.number == 0, &ow, order);

@@ -1,4 +1,5 @@
--- Tables loaded one after the other into parts of one: what stands then is one table behind the other. By the lengths of the parts. Assumes nothing.
+-- Tables loaded one after the other into parts of one: what stands then is one table behind the other. By the lengths
+-- of the parts. Assumes nothing.
 use Prim.Native.Nat.{ℕ, _+_, _-_, _≤_}
 use mathlib.Core.Path.{_≡_, refl, sym, _∙_, ap}
 use mathlib.Core.List.{List, [], _++_, append-assoc, append-nil}

@@ -1,4 +1,5 @@
--- Lent tables. "An `args` shorter than the call reads is a short table (2) whose words are not judged." Definitions only.
+-- Lent tables. "An `args` shorter than the call reads is a short table (2) whose words are not judged." Definitions
+-- only.
 use Prim.Native.Nat.{ℕ, _+_, _-_}
 use mathlib.Core.Bool.{Bool, cond, _&&_}
 use mathlib.Core.List.{List, [], _++_}
@@ -7,9 +8,11 @@ use lib.Dec.{leb, eqb}
 use lib.Ieee.{Float, binary32, ofBits}
 use Rattle.vec.specs.declared.Vec3.{Vec3}
 use Rattle.words.specs.Words.{wordAt, wordsOf}
+use Rattle.plan.specs.Sections.{planWords, argsWords, nodesWords, orderPlaces}
 use Rattle.refusals.specs.Refusals.{noRoom, unless}
 
--- "plan 22,288 words, 89,152 bytes; nodes 4,599 words, 18,396 bytes; order 256 words, 1,024 bytes", and sixteen words of an answer
+-- "plan 22,288 words, 89,152 bytes; nodes 4,599 words, 18,396 bytes; order 256 words, 1,024 bytes", and sixteen words
+-- of an answer
 abbrev pub planBytes : ℕ
 planBytes = 89152
 
@@ -48,7 +51,8 @@ loadedPart t w from to =
 -- ---- what a call works on: plan, arguments, nodes and order, and zeros to a whole row
 unfoldable pub tableOf : List ℕ → List ℕ → List ℕ → List ℕ → List ℕ
 tableOf plan args nodes order =
-    (((wordsOf plan 22288 ++ wordsOf args 144) ++ wordsOf nodes 4599) ++ wordsOf order 256) ++ wordsOf [] 9
+    (((wordsOf plan planWords ++ wordsOf args argsWords) ++ wordsOf nodes nodesWords) ++ wordsOf order orderPlaces)
+    ++ wordsOf [] 9
 
 -- of a call on the plan that reads `need` bytes of arguments
 unfoldable pub planTable : ℕ → List ℕ → List ℕ → List ℕ

@@ -1,5 +1,6 @@
--- What applies by the tables' lengths before a word is judged, and what a call leaves. "An `out` shorter than 16 words is a short table too, and stays as it
--- was whatever number is sent. Of all the numbers that apply, from the arguments, the tables and the plan together, the lowest is sent." Definitions only.
+-- What applies by the tables' lengths before a word is judged, and what a call leaves. "An `out` shorter than 16 words
+-- is a short table too, and stays as it was whatever number is sent. Of all the numbers that apply, from the arguments,
+-- the tables and the plan together, the lowest is sent." Definitions only.
 use Prim.Native.Nat.{ℕ}
 use mathlib.Core.Path.{_≡_}
 use mathlib.Core.Bool.{Bool, cond, _&&_}

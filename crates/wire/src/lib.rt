@@ -1,10 +1,15 @@
-// The boundary's tables: which are short, how what is lent is loaded into one table of words and floats, and how it is stored and a reply sent.
+// The boundary's tables: which are short, how what is lent is loaded into one table of words and floats, and how it is
+// stored and a reply sent.
 ghost use mathlib.Core.Path.{_≡_};
 ghost use mathlib.Core.List.{[]};
 ghost use Rattle.plan.specs.Plan.{seen};
-ghost use Rattle.wire.specs.Lent.{shortNumber, lentOf, usedOf, givenFloat, givenVec, loadedPart, tableOf, planTable, askTable};
-ghost use Rattle.wire.specs.Sent.{argsBefore, planBefore, tablesBefore, treeTablesBefore, treeBefore, askBefore, storedFront, storedPlan, storedTable, clearedFront, cleared, Sent};
+ghost use Rattle.wire.specs.Lent.{shortNumber, lentOf, usedOf, givenFloat, givenVec, loadedPart, tableOf};
+ghost use Rattle.wire.specs.Lent.{planTable, askTable};
+ghost use Rattle.wire.specs.Sent.{argsBefore, planBefore, tablesBefore, treeTablesBefore, treeBefore, askBefore};
+ghost use Rattle.wire.specs.Sent.{storedFront, storedPlan, storedTable, clearedFront, cleared, Sent};
 use plan::Floats;
+use plan::Nodes;
+use plan::Order;
 use plan::Words;
 use reply::Reply;
 use vec::Vec3;
@@ -220,7 +225,7 @@ pub fn store_plan(stores: bool, ws: &Words, b: &mut [u8])
     }
 }
 
-pub fn store_nodes(stores: bool, nw: &[u32; 4599], b: &mut [u8])
+pub fn store_nodes(stores: bool, nw: &Nodes, b: &mut [u8])
     ensures { λ _. ⌜ now (b .exit) ≡ storedTable stores (now (nw .entry)) (now (b .entry)) ⌝ }
 {
     if stores {
@@ -228,7 +233,7 @@ pub fn store_nodes(stores: bool, nw: &[u32; 4599], b: &mut [u8])
     }
 }
 
-pub fn store_order(stores: bool, ow: &[u32; 256], b: &mut [u8])
+pub fn store_order(stores: bool, ow: &Order, b: &mut [u8])
     ensures { λ _. ⌜ now (b .exit) ≡ storedTable stores (now (ow .entry)) (now (b .entry)) ⌝ }
 {
     if stores {

@@ -1,4 +1,5 @@
--- Words in bytes: what is put is read back, nothing else changes, and what is loaded and stored again is the same. By the place of each byte. Assumes nothing.
+-- Words in bytes: what is put is read back, nothing else changes, and what is loaded and stored again is the same. By
+-- the place of each byte. Assumes nothing.
 use Prim.Native.Nat.{ℕ, zero, suc, _+_, _*_, _/_, _%_, _<_, _≤_, min}
 use mathlib.Core.Path.{_≡_, refl, sym, _∙_, ap}
 use mathlib.Core.Bool.{true, false}

@@ -22,7 +22,8 @@ loop-holds : tie.Need-loop-holds Inv-loop μ-loop
 loop-holds c = (search needs, search needs, fill-none _ 0)
 
 loop-again : tie.Need-loop-again Inv-loop μ-loop
-loop-again c = let l = c .before .loop in (search needs, search needs, rw (l .inv .2) (fill-more (l .i) 0 _ (omega arith)))
+loop-again c =
+    let l = c .before .loop in (search needs, search needs, rw (l .inv .2) (fill-more (l .i) 0 _ (omega arith)))
 
 returns : tie.Need-returns Inv-loop μ-loop
 returns c =

@@ -15,7 +15,8 @@ use Rattle.bemitondry.proofs.copy_front.Statement.{statement}
 use Rattle.bemitondry.proofs.copy_front.Tie as tie
 
 abbrev Inv-loop : tie.InvT-loop
-Inv-loop ws from k to₀ i₀ to i = (i ≤ length to₀) × (length to ≡ length to₀) × (take i to ≡ listFrom (frontWord ws from k) 0 i)
+Inv-loop ws from k to₀ i₀ to i =
+    (i ≤ length to₀) × (length to ≡ length to₀) × (take i to ≡ listFrom (frontWord ws from k) 0 i)
 
 abbrev μ-loop : tie.MeasureT-loop
 μ-loop ws from k to₀ i₀ to i = length to₀ - i
@@ -32,7 +33,8 @@ loop-again c =
     (search needs, search needs, fill-more (frontWord (s .ws .now) (s .from) (s .k)) (l .to) (l .i) _ (search needs) e (l .inv .2))
 
 returns : tie.Need-returns Inv-loop μ-loop
-returns c = let l = c .before .loop in fill-all (frontWord _ _ _) (l .to) (l .i) _ (l .inv .1) (search needs) (search needs) (l .inv .2)
+returns c =
+    let l = c .before .loop in fill-all (frontWord _ _ _) (l .to) (l .i) _ (l .inv .1) (search needs) (search needs) (l .inv .2)
 
 pub copy-front-spec : {M : Type 1} → statement M
 copy-front-spec =

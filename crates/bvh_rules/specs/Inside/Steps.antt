@@ -14,7 +14,8 @@ use Rattle.bvh_rules.specs.declared.Kind.{Kind}
 use Rattle.bvh_rules.specs.declared.Kind.the-variants.{Wrong, Leaf, Inner}
 use Rattle.bvh_rules.specs.declared.Sub.{Sub}
 use Rattle.bvh_rules.specs.declared.Sub.the-variants.{Bad, Good}
-use Rattle.bvh_rules.specs.Nodes.{nodesMost, orderPlaces, nodeAt}
+use Rattle.plan.specs.Sections.{orderPlaces}
+use Rattle.bvh_rules.specs.Nodes.{nodesMost, nodeAt}
 
 unfoldable pub every : Bool → List Bool → Bool
 every so [] = so

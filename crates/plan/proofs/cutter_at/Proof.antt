@@ -1,4 +1,5 @@
--- `plan::cutter_at` meets its contract: before the last row by the words read, and past it since the tables end there. Assumes nothing.
+-- `plan::cutter_at` meets its contract: before the last row by the words read, and past it since the tables end there.
+-- Assumes nothing.
 use Rattle.plan.specs.Records.{cutterAt}
 use Rattle.plan.proofs.Lists.{cutter-past}
 use borrow.Author.Needs.{needs}

@@ -1,4 +1,5 @@
--- `plan::head_at` meets its contract: before the last row by the words read, and past it since the tables end there. Assumes nothing.
+-- `plan::head_at` meets its contract: before the last row by the words read, and past it since the tables end there.
+-- Assumes nothing.
 use Rattle.plan.proofs.Lists.{head-row, head-past}
 use borrow.Author.Needs.{needs}
 use Rattle.plan.proofs.head_at.Statement.{statement}

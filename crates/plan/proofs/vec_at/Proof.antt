@@ -1,4 +1,5 @@
--- `plan::vec_at` meets its contract, by that of `float_in`, and past the last row since the table ends there. Assumes nothing.
+-- `plan::vec_at` meets its contract, by that of `float_in`, and past the last row since the table ends there. Assumes
+-- nothing.
 use borrow.Author.Needs.{needs}
 use Rattle.plan.proofs.Lists.{vec-past}
 use Rattle.plan.proofs.vec_at.Statement.{statement}
@@ -10,7 +11,8 @@ returns c = cc
 returns-2 : tie.Need-returns-2
 returns-2 c =
     let a = c .before .before .before .args in
-    rw (vec-past (a .fs .now) (c .before .-floats .given .0) (a .r) (a .k) (c .before .before .if1 .left)) (c .no-vec .ensures)
+    rw (vec-past (a .fs .now) (c .before .-floats .given .0) (a .r) (a .k) (c .before .before .if1 .left))
+    (c .no-vec .ensures)
 
 pub vec-at-spec : {M : Type 1} → statement M
 vec-at-spec =

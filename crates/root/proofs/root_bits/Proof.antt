@@ -1,10 +1,11 @@
--- `root::root_bits` meets its contract. The loop keeps the value n * 4 ^ j, and n grows until it has 49 or 50 digits. Assumes nothing.
+-- `root::root_bits` meets its contract. The loop keeps the value n * 4 ^ j, and n grows until it has 49 or 50 digits.
+-- Assumes nothing.
 use mathlib.Core.Path.{_≡_, refl, sym}
 use Prim.Native.Nat.{ℕ, suc, _≤_, _<_, _*_, _-_, _+_, _/_, _%_, _^_}
 use native.Mathlib.Omega.{arith}
 use borrow.Author.Needs.{needs}
 use Rattle.root.specs.Root.{val, rootBits}
-use Rattle.root.specs.Steps.{Scaled}
+use Rattle.root.specs.Inside.Steps.{Scaled}
 use Rattle.root.proofs.Core.{begin, e-small, zero-is, s-small, j-pos, n-pos, turn, result}
 use lib.Dec.{lit<}
 use native.Mathlib.Nat.{not-le-of-lt}

@@ -11,7 +11,8 @@ returns c =
     let s = c .before .before in
     let r = s .before .before in
     let l = r .before .before in
-    sent-as (rw (r .acos .ensures, r .before .float-at .ensures, l .lent .ensures, l .before .args-before .ensures)) (s .send .ensures)
+    sent-as (rw (r .acos .ensures, r .before .float-at .ensures, l .lent .ensures, l .before .args-before .ensures))
+    (s .send .ensures)
 
 pub viewer-acos-spec : {M : Type 1} → statement M
 viewer-acos-spec =

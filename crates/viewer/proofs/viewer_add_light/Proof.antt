@@ -14,7 +14,9 @@ returns c =
     let p = s .before .before .before .before in
     let a = p .before .before .before .before in
     let l = a .before .before .before in
-    entry-sent lightEntry (countOf lights) (λ w f. withLightWords w) _ _ _ _ _ _ _ _ _ _ _ _ (l .before .load-plan .ensures) (l .plan-before .ensures) (a .add-light .ensures) (p .store-plan .ensures) (s .send .ensures)
+    entry-sent lightEntry (countOf lights) (λ w f. withLightWords w) _ _ _ _ _ _ _ _ _ _ _ _
+    (l .before .load-plan .ensures) (l .plan-before .ensures) (a .add-light .ensures) (p .store-plan .ensures)
+    (s .send .ensures)
 
 pub viewer-add-light-spec : {M : Type 1} → statement M
 viewer-add-light-spec =

@@ -14,7 +14,9 @@ returns c =
     let p = s .before .before .before .before in
     let a = p .before .before .before .before in
     let l = a .before .before .before in
-    entry-sent materialEntry (countOf materials) (λ w f. withMaterialWords w) _ _ _ _ _ _ _ _ _ _ _ _ (l .before .load-plan .ensures) (l .plan-before .ensures) (a .add-material .ensures) (p .store-plan .ensures) (s .send .ensures)
+    entry-sent materialEntry (countOf materials) (λ w f. withMaterialWords w) _ _ _ _ _ _ _ _ _ _ _ _
+    (l .before .load-plan .ensures) (l .plan-before .ensures) (a .add-material .ensures) (p .store-plan .ensures)
+    (s .send .ensures)
 
 pub viewer-add-material-spec : {M : Type 1} → statement M
 viewer-add-material-spec =

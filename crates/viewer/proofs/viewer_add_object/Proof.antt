@@ -1,4 +1,5 @@
--- `viewer_add_object` meets its contract: what the entry leaves is stored and sent, and the tree's tables become zero. Assumes nothing.
+-- `viewer_add_object` meets its contract: what the entry leaves is stored and sent, and the tree's tables become zero.
+-- Assumes nothing.
 use mathlib.Core.Bool.{false}
 use lib.ListN.{length}
 use Rattle.plan.specs.Sections.{objects}

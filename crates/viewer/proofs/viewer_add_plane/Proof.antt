@@ -16,7 +16,9 @@ returns c =
     let a = p .before .before .before .before in
     let l = a .before .before .before in
     let bytes = length (l .before .before .before .before .before .before .before .before .args .args .now) in
-    entry-sent (λ b w f. pieceEntry b true w f bytes) (countOf planes) (pieceLeft true) _ _ _ _ _ _ _ _ _ _ _ _ (l .before .load-plan .ensures) (l .plan-before .ensures) (a .add-piece .ensures) (p .store-plan .ensures) (s .send .ensures)
+    entry-sent (λ b w f. pieceEntry b true w f bytes) (countOf planes) (pieceLeft true) _ _ _ _ _ _ _ _ _ _ _ _
+    (l .before .load-plan .ensures) (l .plan-before .ensures) (a .add-piece .ensures) (p .store-plan .ensures)
+    (s .send .ensures)
 
 pub viewer-add-plane-spec : {M : Type 1} → statement M
 viewer-add-plane-spec =

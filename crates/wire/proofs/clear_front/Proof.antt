@@ -21,11 +21,13 @@ loop-holds : tie.Need-loop-holds Inv-loop μ-loop
 loop-holds c = (search needs, search needs, search needs, fill-none _ 0)
 
 loop-again : tie.Need-loop-again Inv-loop μ-loop
-loop-again c = let l = c .before .loop in (search needs, search needs, search needs, rw (l .inv .3) (fill-more (l .i) 0 _ (omega arith)))
+loop-again c =
+    let l = c .before .loop in (search needs, search needs, search needs, rw (l .inv .3) (fill-more (l .i) 0 _ (omega arith)))
 
 returns : tie.Need-returns Inv-loop μ-loop
 unfolding clearedFront
-returns c = let e : c .before .loop .i ≡ c .before .before .before .args .n = omega arith in simp (le-leb _ _ (c .before .before .if1 .taken)) (rw (← e) (c .before .loop .inv .3))
+returns c =
+    let e : c .before .loop .i ≡ c .before .before .before .args .n = omega arith in simp (le-leb _ _ (c .before .before .if1 .taken)) (rw (← e) (c .before .loop .inv .3))
 
 returns-2 : tie.Need-returns-2 Inv-loop μ-loop
 unfolding clearedFront

@@ -1,4 +1,5 @@
--- `wire::load_part` meets its contract: the part that is lent becomes the table's words, where it lies inside. Assumes nothing.
+-- `wire::load_part` meets its contract: the part that is lent becomes the table's words, where it lies inside. Assumes
+-- nothing.
 use native.Mathlib.Omega.{arith}
 use borrow.Author.Tests.{le-leb, lt-leb}
 use Rattle.wire.specs.Lent.{loadedPart}

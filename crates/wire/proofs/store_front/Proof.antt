@@ -8,11 +8,13 @@ use Rattle.wire.proofs.store_front.Statement.{statement}
 use Rattle.wire.proofs.store_front.Tie as tie
 
 slice-aggregate-store : tie.Need-slice-aggregate-store
-slice-aggregate-store c = let a = c .before .before .before .before .args in sym (length-take-le (a .n) (a .ws .now) (c .before .if1 .taken))
+slice-aggregate-store c =
+    let a = c .before .before .before .before .args in sym (length-take-le (a .n) (a .ws .now) (c .before .if1 .taken))
 
 returns : tie.Need-returns
 unfolding storedFront
-returns c = simp (le-leb _ _ (c .before .before .before .before .before .if1 .taken)) (c .before .before .store .ensures)
+returns c =
+    simp (le-leb _ _ (c .before .before .before .before .before .if1 .taken)) (c .before .before .store .ensures)
 
 returns-2 : tie.Need-returns-2
 unfolding storedFront

@@ -1,4 +1,5 @@
--- What the laws of order speak of: numbers, finite values as fractions, bounds, what rounds to what, and the nearer of two. Definitions only.
+-- What the laws of order speak of: numbers, finite values as fractions, bounds, what rounds to what, and the nearer of
+-- two. Definitions only.
 use Prim.Native.Nat.{ℕ, zero, suc, _+_, _*_, _≤_, _<_}
 use mathlib.Core.Path.{_≡_}
 use mathlib.Core.Bool.{Bool, true, false, not, cond}
@@ -57,14 +58,14 @@ pub record Zero (x : Float) : Type 0 where
   pub loss : debit x ≡ 0
 
 -- x is finite, and no larger than b either way
-pub record Within (b : ℕ) (x : Float) : Type 0 where
+pub record Bounded (b : ℕ) (x : Float) : Type 0 where
   pub finite : T (finite x)
   pub size : credit x + debit x ≤ b * den x
 
 -- ---- rounding
 -- the format holds the number b
-abbrev pub Held : Format → ℕ → Type 0
-Held f b = HasValue (round f false b 1) false b 1
+abbrev pub Exactly : Format → ℕ → Type 0
+Exactly f b = HasValue (round f false b 1) false b 1
 
 -- p - n is k, or -k
 abbrev pub Apart : Bool → ℕ → ℕ → ℕ → Type 0
@@ -80,5 +81,5 @@ pub record Rounded (f : Format) (r : Float) (p n c : ℕ) : Type 0 where
 
 -- ---- extremes
 -- the nearer of a best so far and one more: the best so far, unless d is below it
-abbrev pub closer : Float → Float → Float
-closer best d = cond (lt d best) d best
+abbrev pub lessOf : Float → Float → Float
+lessOf best d = cond (lt d best) d best

@@ -1,5 +1,6 @@
--- What a square is held against so that no root is taken: the root of x is at least b exactly where x is at least `barOf b`, the square of the
--- midpoint of b and the f32 just below, which an f64 holds. Definitions only; the law is `bar-law` of proofs/BarLaw.antt.
+-- What a square is held against so that no root is taken: the root of x is at least b exactly where x is at least
+-- `barOf b`, the square of the midpoint of b and the f32 just below, which an f64 holds. Definitions only; the law is
+-- `bar-law` of proofs/BarLaw.antt.
 use Prim.Native.Nat.{_-_}
 use mathlib.Core.Bool.{Bool, true, false, cond}
 use lib.IntN.{pos, negsuc}
