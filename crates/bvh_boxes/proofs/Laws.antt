@@ -107,20 +107,6 @@ nowhere-inside c h =
     (record { x = at-most (c .lo .x) (l .x); y = at-most (c .lo .y) (l .y); z = at-most (c .lo .z) (l .z) })
     (record { x = at-least (c .hi .x) (u .x); y = at-least (c .hi .y) (u .y); z = at-least (c .hi .z) (u .z) })
 
-pub merge-nowhere : (b : Aabb) → T (finiteBox b) → merge nowhere b ≡ b
-unfolding merge vmin vmax vsplat
-merge-nowhere b h =
-    let l = finite-lo b h in
-    let u = finite-hi b h in
-    rw (
-      fmin-top (b .lo .x) (l .x),
-      fmin-top (b .lo .y) (l .y),
-      fmin-top (b .lo .z) (l .z),
-      fmax-bottom (b .hi .x) (u .x),
-      fmax-bottom (b .hi .y) (u .y),
-      fmax-bottom (b .hi .z) (u .z),
-    )
-
 -- ---- the hull is the least box around a list
 abbrev pub AllFinite : List Aabb → Type 0
 AllFinite bs = (i : ℕ) → i < length bs → T (finiteBox (boxAt bs i))

@@ -86,7 +86,3 @@ module _ {A : Type 0} where
   laid-front xs ys h =
       let e : 0 + length ys ≡ length ys = omega arith in
       laid-sets xs 0 ys ∙ sets-eq ys xs 0 (omega arith) ∙ ap (λ (n : ℕ). ys ++ drop n xs) e
-
-  pub laid-all : (xs ys : List A) → length ys ≡ length xs → laid xs 0 ys ≡ ys
-  laid-all xs ys h =
-      laid-front xs ys (omega arith) ∙ ap (λ (n : ℕ). ys ++ drop n xs) h ∙ rw (drop-length xs) (append-nil ys)

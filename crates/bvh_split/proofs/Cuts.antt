@@ -86,9 +86,6 @@ module _ (bs : List Aabb) (os : List ℕ) (c : Aabb) where
   pub cut-all : (P : ℕ → Type 0) → Each P os → Each P (cutOf bs os c .order)
   cut-all P h = perm-all P cut-once h
 
-  pub cut-apart : Apart os → Apart (cutOf bs os c .order)
-  cut-apart h = perm-apart cut-once h
-
 -- ---- the boxes of a range
 pub members-length : (bs : List Aabb) (os : List ℕ) → length (members bs os) ≡ length os
 unfolding members

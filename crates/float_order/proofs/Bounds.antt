@@ -129,15 +129,6 @@ module _ (f : Format) (a b c : ℕ) (held : Exactly f c) (x y : Float) (wx : Bou
           let z = simp add-mul at (mul-le-mul-right (e * e') h) in
           simp mul-comm (omega (arith, u, w, z))
 
-  pub mul-within : a * b ≤ c → Bounded c (mul f x y)
-  mul-within h = rounded-within f (mul f x y) _ _ (den x * den y) c held (mul-pos (den-pos x) (den-pos y)) (mul-rounded f x y (wx .finite) (wy .finite)) (total (credit x) (debit x) (den x) (credit y) (debit y) (den y) (wx .size) (wy .size))
-    where
-      total : (p q e p' q' e' : ℕ) → p + q ≤ a * e → p' + q' ≤ b * e' → p * p' + q * q' + (p * q' + q * p') ≤ c * (e * e')
-      total p q e p' q' e' g k =
-          let u = simp (add-mul, mul-add, mul-assoc, mul-left-comm) at (mul-le-mul g k) in
-          let z = simp mul-assoc at (mul-le-mul-right (e * e') h) in
-          omega (arith, u, z)
-
 pub sub-within : (f : Format) (a b c : ℕ) → Exactly f c → (x y : Float) → Bounded a x → Bounded b y → a + b ≤ c → Bounded c (sub f x y)
 unfolding sub
 sub-within f a b c held x y wx wy h = add-within f a b c held x (neg y) wx (within-neg b y wy) h
@@ -151,6 +142,3 @@ fmin-within b = fmin-either (Bounded b)
 -- ---- what a format holds: every whole number up to 2 ^ prec, and such a number times a power of two, below 2 ^ (emax + 1)
 pub held-whole : (f : Format) (b : ℕ) → b ≤ 2 ^ prec f → Exactly f b
 held-whole f b h = round-whole f false b h
-
-pub held-scaled : (f : Format) (q k : ℕ) → q < 2 ^ prec f → q * 2 ^ k < 2 ^ suc (emax f) → Exactly f (q * 2 ^ k)
-held-scaled f q k h g = round-up f false q k h (subst (λ (z : ℕ). q * 2 ^ k < z) (sym (mul-one (2 ^ suc (emax f)))) g)

@@ -66,13 +66,6 @@ fits-held f s t (suc m) e h =
     (ltb→lt (suc m * up e) (2 ^ suc (emax f) * down e) (and-r (a && b && c) d h))
 
 -- ---- a held value and what it rounds to
-held-le : (s : Bool) (m : ℕ) (e : ℤ) (y : Float) → HasValue y s (m * up e) (down e) → T (le (fin s m e) y)
-held-le s m e nan h = absurd h
-held-le s m e (inf t) h = absurd h
-held-le true m e (fin true n d) h = at-most→le (fin true m e) (fin true n d) tt tt (omega (arith, h .1))
-held-le true m e (fin false n d) h = absurd (true≢false (sym (h .0)))
-held-le false m e (fin true n d) h = absurd (true≢false (h .0))
-held-le false m e (fin false n d) h = at-most→le (fin false m e) (fin false n d) tt tt (omega (arith, h .1))
 
 held-ge : (s : Bool) (m : ℕ) (e : ℤ) (y : Float) → HasValue y s (m * up e) (down e) → T (le y (fin s m e))
 held-ge s m e nan h = absurd h
@@ -87,15 +80,6 @@ own f true m e = record { sign = true; size = m * up e; apart = omega arith; is 
 own f false m e = record { sign = false; size = m * up e; apart = omega arith; is = refl }
 
 module _ (f : Format) (x : Float) (held : T (fits f x)) (small : T (finite x)) (r : Float) (p n c : ℕ) (C : 0 < c) (is : Rounded f r p n c) where
-  -- (p - n) / c is at least x: so is what it rounds to
-  pub rounded-ge : credit x * c + n * den x ≤ p * den x + debit x * c → T (le x r)
-  rounded-ge h = go x held small h
-    where
-      go : (x : Float) → T (fits f x) → T (finite x) → credit x * c + n * den x ≤ p * den x + debit x * c → T (le x r)
-      go nan k l h = absurd l
-      go (inf s) k l h = absurd l
-      go (fin s m e) k l h = le-trans (fin s m e) (round f s (m * up e) (down e)) r (held-le s m e (round f s (m * up e) (down e)) (fits-held f s s m e k)) (rounded-mono f (round f s (m * up e) (down e)) r (credit (fin s m e)) (debit (fin s m e)) (down e) p n c (down-pos e) C (own f s m e) is h)
-
   pub rounded-le : p * den x + debit x * c ≤ credit x * c + n * den x → T (le r x)
   rounded-le h = go x held small h
     where
@@ -105,42 +89,9 @@ module _ (f : Format) (x : Float) (held : T (fits f x)) (small : T (finite x)) (
       go (fin s m e) k l h = le-trans r (round f s (m * up e) (down e)) (fin s m e) (rounded-mono f r (round f s (m * up e) (down e)) p n c (credit (fin s m e)) (debit (fin s m e)) (down e) C (down-pos e) is (own f s m e) h) (held-ge s m e (round f s (m * up e) (down e)) (fits-held f s s m e k))
 
 -- ---- a sum with what is not negative is no less, and with what is not positive no more
-no-credit : (y : Float) → T (finite y) → T (le y zeroF) → credit y ≡ 0
-no-credit nan p h = absurd p
-no-credit (inf s) p h = absurd p
-no-credit (fin true m e) p h = refl
-no-credit (fin false m e) p h = let k = le→at-most (fin false m e) zeroF tt tt h in omega (arith, k)
-
-pub add-up : (f : Format) (x w : Float) → T (fits f x) → T (finite x) → T (le zeroF w) → T (le x (add f x w))
-add-up f x nan k l h = absurd (le-right zeroF nan h)
-add-up f x (inf true) k l h = absurd (unfold le in h)
-add-up f x (inf false) k l h = rw (add-inf-right f false x (add-number' f x (inf false) l tt)) (le-top x (finite-number x l))
-add-up f x (fin t n d) k l h =
-    let w = fin t n d in
-    rounded-ge f x k l (add f x w) (credit x * den w + credit w * den x) (debit x * den w + debit w * den x) (den x * den w) (mul-pos (den-pos x) (den-pos w)) (add-rounded f x w l tt)
-    (more (credit x) (debit x) (den x) (credit w) (debit w) (den w) (no-debit w tt h))
-  where
-    more : (a a' c b b' d : ℕ) → b' ≡ 0 → a * (c * d) + (a' * d + b' * c) * c ≤ (a * d + b * c) * c + a' * (c * d)
-    more a a' c b b' d e = rw e (simp (add-mul, mul-assoc, mul-comm) (omega arith))
-
-pub add-down : (f : Format) (x w : Float) → T (fits f x) → T (finite x) → T (le w zeroF) → T (le (add f x w) x)
-add-down f x nan k l h = absurd (le-left nan zeroF h)
-add-down f x (inf false) k l h = absurd (unfold le in h)
-add-down f x (inf true) k l h = rw (add-inf-right f true x (add-number' f x (inf true) l tt)) (bottom-le x (finite-number x l))
-add-down f x (fin t n d) k l h =
-    let w = fin t n d in
-    rounded-le f x k l (add f x w) (credit x * den w + credit w * den x) (debit x * den w + debit w * den x) (den x * den w) (mul-pos (den-pos x) (den-pos w)) (add-rounded f x w l tt)
-    (less (credit x) (debit x) (den x) (credit w) (debit w) (den w) (no-credit w tt h))
-  where
-    less : (a a' c b b' d : ℕ) → b ≡ 0 → (a * d + b * c) * c + a' * (c * d) ≤ a * (c * d) + (a' * d + b' * c) * c
-    less a a' c b b' d e = rw e (simp (add-mul, mul-assoc, mul-comm) (omega arith))
 
 pub neg-plus : (w : Float) → T (le zeroF w) → T (le (neg w) zeroF)
 neg-plus w h = le-trans (neg w) (neg zeroF) zeroF (neg-le zeroF w h) (unfold neg in (unfold le in tt))
-
-pub sub-down : (f : Format) (x w : Float) → T (fits f x) → T (finite x) → T (le zeroF w) → T (le (sub f x w) x)
-unfolding sub
-sub-down f x w k l h = add-down f x (neg w) k l (neg-plus w h)
 
 -- the two sides of a box around c: c - r ≤ c + r
 pub sides : (f : Format) (c r : Float) → T (finite c) → T (le zeroF r) → T (le (sub f c r) (add f c r))
@@ -150,40 +101,3 @@ sides f c r l h =
     (add-number' f c (neg r) l (neg-number r (le-right zeroF r h))) (add-number' f c r l (le-right zeroF r h))
 
 -- ---- of two values that a format holds, and that are equal: they are one, unless one of them is -0
-abbrev bitsFrom : Format → Bool → ℕ → ℕ
-bitsFrom f s n = cond s (top f) 0 + (size n - prec f) * hid f + n / 2 ^ (size n - prec f)
-
-bits-are : (f : Format) (s : Bool) (m : ℕ) (e : ℤ) → toBits f (fin s m e) ≡ bitsFrom f s (m * up e * 2 ^ low f / down e)
-unfolding toBits
-bits-are f s m e = refl
-
-same-sign : (f : Format) (s : Bool) (m : ℕ) (e : ℤ) (n : ℕ) (d : ℤ) → T (fits f (fin s m e)) → T (fits f (fin s n d)) → m * up e * down d ≡ n * up d * down e → fin s m e ≡ fin s n d
-same-sign f s m e n d h k q =
-    let l = 2 ^ low f in
-    sym (ofBits-toBits f (fin s m e) h)
-    ∙ ap (ofBits f) (bits-are f s m e ∙ ap (bitsFrom f s) (div-same (m * up e * l) (down e) (n * up d * l) (down d) (down-pos e) (down-pos d) (mul-right-comm (m * up e) l (down d) ∙ ap (λ (z : ℕ). z * l) q ∙ mul-right-comm (n * up d) (down e) l)) ∙ sym (bits-are f s n d))
-    ∙ ofBits-toBits f (fin s n d) k
-
-no-minus : (m : ℕ) (e d : ℤ) → T (not (minusZero (fin true m e))) → m * up e * down d ≡ 0 → ⊥
-no-minus zero e d h p = h
-no-minus (suc m) e d h p = not-zero (suc m * up e * down d) (mul-pos (mul-pos (zero-lt-suc m) (up-pos e)) (down-pos d)) p
-  where
-    not-zero : (a : ℕ) → 0 < a → a ≡ 0 → ⊥
-    not-zero a h e = omega arith
-
-pub eq-only : (f : Format) (x y : Float) → T (fits f x) → T (fits f y) → T (not (minusZero x)) → T (not (minusZero y)) → T (eq x y) → x ≡ y
-unfolding eq
-eq-only f nan y h k p q t = absurd t
-eq-only f (inf s) nan h k p q t = absurd t
-eq-only f (inf true) (inf true) h k p q t = refl
-eq-only f (inf true) (inf false) h k p q t = absurd t
-eq-only f (inf false) (inf true) h k p q t = absurd t
-eq-only f (inf false) (inf false) h k p q t = refl
-eq-only f (inf s) (fin t n d) h k p q u = absurd u
-eq-only f (fin s m e) nan h k p q t = absurd t
-eq-only f (fin s m e) (inf t) h k p q u = absurd u
-eq-only f (fin true m e) (fin true n d) h k p q t = same-sign f true m e n d h k (eqb→eq (m * up e * down d) (n * up d * down e) (and-l (eqb (m * up e * down d) (n * up d * down e)) true t))
-eq-only f (fin false m e) (fin false n d) h k p q t = same-sign f false m e n d h k (eqb→eq (m * up e * down d) (n * up d * down e) (and-l (eqb (m * up e * down d) (n * up d * down e)) true t))
-eq-only f (fin true m e) (fin false n d) h k p q t = absurd (no-minus m e d p (eqb→eq (m * up e * down d) 0 (and-r (eqb (m * up e * down d) (n * up d * down e)) (eqb (m * up e * down d) 0) t)))
-eq-only f (fin false m e) (fin true n d) h k p q t =
-    absurd (no-minus n d e q (sym (eqb→eq (m * up e * down d) (n * up d * down e) (and-l (eqb (m * up e * down d) (n * up d * down e)) (eqb (m * up e * down d) 0) t)) ∙ eqb→eq (m * up e * down d) 0 (and-r (eqb (m * up e * down d) (n * up d * down e)) (eqb (m * up e * down d) 0) t)))

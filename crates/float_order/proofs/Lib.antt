@@ -3,5 +3,4 @@ pub mod Extremes
 pub mod Rounding
 pub mod Holding
 pub mod Bounds
-pub mod Signs
 pub mod Roots

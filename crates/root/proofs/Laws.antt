@@ -219,10 +219,6 @@ largest : toBits binary32 (rootOf (ofBits binary32 0x7f7fffff)) ≡ 0x5f7fffff
 unfolding rootOf toBits ofBits
 largest = refl
 
-near-one : toBits binary32 (rootOf (ofBits binary32 0x3f7fffff)) ≡ 0x3f7fffff
-unfolding rootOf toBits ofBits
-near-one = refl
-
 normal : toBits binary32 (rootOf (ofBits binary32 0x00800000)) ≡ 0x20000000
 unfolding rootOf toBits ofBits
 normal = refl
