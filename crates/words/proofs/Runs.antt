@@ -1,6 +1,6 @@
 -- What a loop that fills a list or writes words needs at its start, at a turn and at its end, and what holds of each
 -- member of a list. By induction on the list. Assumes nothing.
-use Prim.Native.Nat.{ℕ, zero, suc, _+_, _<_, _≤_}
+use Prim.Native.Nat.{ℕ, zero, suc, _+_, _<_, _≤_, _/_}
 use mathlib.Core.Path.{_≡_, refl, sym, _∙_, ap}
 use mathlib.Core.List.{List, [], _∷_, _++_}
 use native.Mathlib.Numerals.{add-one}
@@ -8,8 +8,9 @@ use native.Mathlib.Nat.{add-zero}
 use native.Mathlib.Omega.{arith}
 use lib.ListN.{length, getD, set, take, drop}
 use lib.Seq.{drop-cons, take-suc-set, take-all}
+use borrow.Author.Tests.{le-ltb}
 use Rattle.words.specs.Lists.{listFrom, All}
-use Rattle.words.specs.Words.{putWord, putWords}
+use Rattle.words.specs.Words.{wordAt, putWord, putWords}
 
 module _ {A : Type 0} (f : ℕ → A) where
   pub from-snoc : (a n : ℕ) → listFrom f a (suc n) ≡ listFrom f a n ++ (f (a + n) ∷ [])
@@ -94,3 +95,8 @@ pub puts-step
     → putWords b i (drop i ws) ≡ putWords (putWord b i (getD ws i 0)) (i + 1) (drop (i + 1) ws)
 unfolding putWords
 puts-step b ws i h = rw (drop-cons ws i 0 h, add-one)
+
+-- past the bytes every word is 0
+pub word-past : (b : List ℕ) (i : ℕ) → length b / 4 ≤ i → 0 ≡ wordAt b i
+unfolding wordAt
+word-past b i h = rw (le-ltb i (length b / 4) h)

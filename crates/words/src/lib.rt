@@ -41,7 +41,8 @@ fn lesser(a: usize, b: usize) -> usize
     if a < b { a } else { b }
 }
 
-// The words of the bytes are copied out. The first loop runs as far as the bytes go, so that it compiles to a copy.
+// The words of the bytes are copied out, as far as the bytes go, and then zeros: two loops, so that each compiles to a
+// copy or a fill.
 pub fn load(b: &[u8], words: &mut [u32])
     ensures { λ _. ⌜ now (words .exit) ≡ wordsOf (now (b .entry)) (length (now (words .entry))) ⌝ }
 {
@@ -52,7 +53,7 @@ pub fn load(b: &[u8], words: &mut [u32])
         i += 1;
     }
     while i < words.len() {
-        words[i] = word(b, i);
+        words[i] = 0;
         i += 1;
     }
 }
