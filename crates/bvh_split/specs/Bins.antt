@@ -5,8 +5,8 @@ use mathlib.Core.List.{List, [], _∷_}
 use lib.ListN.{getD, set, replicate}
 use lib.Dec.{eqb}
 use lib.IntN.{pos}
-use lib.Ieee.{Float, binary32, ofBits, ofInt, toUnsigned, lt}
-use Rattle.scalar.specs.F32.{_⊕_, _⊖_, _⊗_, _⊘_, f0}
+use lib.Ieee.{Float, binary32, ofInt, toUnsigned, lt}
+use Rattle.scalar.specs.F32.{_⊕_, _⊖_, _⊗_, _⊘_, f0, f2, f12}
 use Rattle.vec.specs.Vec.{vsub, vaxis}
 use Rattle.sdf.specs.declared.Aabb.{Aabb}
 use Rattle.sdf.specs.Boxes.{centreOf}
@@ -16,20 +16,13 @@ use Rattle.bvh_split.specs.declared.Grid.{Grid}
 use Rattle.bvh_split.specs.declared.Sweep.{Sweep}
 use Rattle.bvh_split.specs.Range.{extentOf, axisOf}
 
--- 12 and 2
-abbrev pub ftwelve : Float
-ftwelve = ofBits binary32 0x4140_0000
-
-abbrev pub ftwo : Float
-ftwo = ofBits binary32 0x4000_0000
-
 -- where the bins lie: the axis, its low end and 12 by its extent
 unfoldable pub gridOf : Aabb → Grid
 gridOf c =
     record {
       axis = axisOf (extentOf c);
       low = vaxis (c .lo) (axisOf (extentOf c));
-      scale = ftwelve ⊘ vaxis (extentOf c) (axisOf (extentOf c));
+      scale = f12 ⊘ vaxis (extentOf c) (axisOf (extentOf c));
     }
 
 -- "A bin's `as usize` truncates a float: worked out, 0 to 11": toward zero, to the nearest end of the range, and from a
@@ -67,7 +60,7 @@ binsFrom g σ (b ∷ bs) = binsFrom g (dropIn g σ b) bs
 unfoldable pub area : Aabb → Float
 area b =
     let d = vsub (b .hi) (b .lo) in
-    cond (lt (b .hi .x) (b .lo .x)) f0 (ftwo ⊗ (d .x ⊗ d .y ⊕ d .y ⊗ d .z ⊕ d .z ⊗ d .x))
+    cond (lt (b .hi .x) (b .lo .x)) f0 (f2 ⊗ (d .x ⊗ d .y ⊕ d .y ⊗ d .z ⊕ d .z ⊗ d .x))
 
 -- the first i bins together
 unfoldable pub leftBox : Bins → ℕ → Aabb

@@ -5,7 +5,8 @@ use Prim.Native.Nat.{ℕ}
 use mathlib.Core.Bool.{Bool, cond, _&&_, _||_}
 use mathlib.Core.List.{List, [], _∷_}
 use lib.Dec.{leb}
-use lib.Ieee.{Float, binary32, ofBits, lt}
+use lib.Ieee.{Float, lt}
+use Rattle.scalar.specs.F32.{f1e-9}
 use Rattle.vec.specs.declared.Vec3.{Vec3}
 use Rattle.vec.specs.Vec.{vsub, vaxis}
 use Rattle.sdf.specs.declared.Aabb.{Aabb}
@@ -41,9 +42,8 @@ extentOf c = vsub (c .hi) (c .lo)
 unfoldable pub axisOf : Vec3 → ℕ
 axisOf e = cond (lt (e .y) (e .x) && lt (e .z) (e .x)) 0 (cond (lt (e .z) (e .y)) 1 2)
 
--- 1e-9
 abbrev pub narrowest : Float
-narrowest = ofBits binary32 0x3089_705f
+narrowest = f1e-9
 
 unfoldable pub stops : ℕ → Vec3 → Bool
 stops n e = leb n 4 || lt (vaxis e (axisOf e)) narrowest

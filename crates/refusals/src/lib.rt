@@ -26,13 +26,21 @@ pub const NO_TREE: u32 = 8;
 
 pub const AT_LIGHT: u32 = 9;
 
-// The limits of given numbers: coordinates, radii, blend and emission; a direction's components; query points; any
-// finite number.
+// The limits of given numbers: coordinates, radii, blend and emission; a direction's components; ray origins; query
+// points; the ends of a ray; a shadow's `k`; Fresnel cosines; any finite number.
 pub const FAR: f32 = 10000.0;
 
 pub const STEEP: f32 = 1.5;
 
+pub const FARTHER: f32 = 20000.0;
+
 pub const FARTHEST: f32 = 200000.0;
+
+pub const LONGEST: f32 = 100000.0;
+
+pub const SHARPEST: f32 = 1000.0;
+
+pub const WIDEST: f32 = 10.0;
 
 pub const GREATEST: f32 = 3.4028235e38;
 

@@ -7,7 +7,8 @@ use mathlib.Core.List.{List, [], _∷_}
 use lib.Dec.{leb, ltb}
 use lib.Ieee.{Float, binary32, ofBits, toBits, neg}
 use Rattle.root.specs.Root.{mid}
-use Rattle.scalar.specs.F32.{fhalf, f1, fpi}
+use Rattle.scalar.specs.F32.{fhalf, f1, fpi, f2, f12, f96, fquarter, f1·25, f1·5, f0·006, f0·015, f0·04}
+use Rattle.scalar.specs.F32.{f0·05, f0·12, fturn, f1e20, f3e-3, f1e-3, f1e-4, f1e-6, f1e-9, f1e-12}
 use Rattle.scalar.specs.Acos.{a0, a1, a2, a3, a4, a5, a6, a7}
 
 -- a value, and its decimal: num / den, below zero where `minus` says so
@@ -33,6 +34,25 @@ constants =
     record { value = fhalf; minus = false; num = 5; den = 10 }
     ∷ record { value = f1; minus = false; num = 1; den = 1 }
     ∷ record { value = fpi; minus = false; num = 31415926535; den = 10 ^ 10 }
+    ∷ record { value = f2; minus = false; num = 2; den = 1 }
+    ∷ record { value = f12; minus = false; num = 12; den = 1 }
+    ∷ record { value = f96; minus = false; num = 96; den = 1 }
+    ∷ record { value = fquarter; minus = false; num = 25; den = 100 }
+    ∷ record { value = f1·25; minus = false; num = 125; den = 100 }
+    ∷ record { value = f1·5; minus = false; num = 15; den = 10 }
+    ∷ record { value = f0·006; minus = false; num = 6; den = 1000 }
+    ∷ record { value = f0·015; minus = false; num = 15; den = 1000 }
+    ∷ record { value = f0·04; minus = false; num = 4; den = 100 }
+    ∷ record { value = f0·05; minus = false; num = 5; den = 100 }
+    ∷ record { value = f0·12; minus = false; num = 12; den = 100 }
+    ∷ record { value = fturn; minus = false; num = 15915494; den = 10 ^ 8 }
+    ∷ record { value = f1e20; minus = false; num = 10 ^ 20; den = 1 }
+    ∷ record { value = f3e-3; minus = false; num = 3; den = 10 ^ 3 }
+    ∷ record { value = f1e-3; minus = false; num = 1; den = 10 ^ 3 }
+    ∷ record { value = f1e-4; minus = false; num = 1; den = 10 ^ 4 }
+    ∷ record { value = f1e-6; minus = false; num = 1; den = 10 ^ 6 }
+    ∷ record { value = f1e-9; minus = false; num = 1; den = 10 ^ 9 }
+    ∷ record { value = f1e-12; minus = false; num = 1; den = 10 ^ 12 }
     ∷ record { value = a0; minus = false; num = 15707963050; den = 10 ^ 10 }
     ∷ record { value = a1; minus = true; num = 2145988016; den = 10 ^ 10 }
     ∷ record { value = a2; minus = false; num = 889789874; den = 10 ^ 10 }

@@ -1,9 +1,9 @@
 -- "The seven kinds are source document 002's formulas": sdf.rs, each operation in the order written there. Definitions
 -- only.
 use mathlib.Core.Bool.{cond, _&&_}
-use lib.Ieee.{Float, binary32, ofBits, neg, lt}
+use lib.Ieee.{Float, neg, lt}
 use Rattle.root.specs.Root.{rootOf}
-use Rattle.scalar.specs.F32.{_⊕_, _⊖_, _⊗_, _⊘_, f0, fhalf, f1}
+use Rattle.scalar.specs.F32.{_⊕_, _⊖_, _⊗_, _⊘_, f0, fhalf, f1, f1e-12}
 use Rattle.scalar.specs.Extremes.{fmin, fmax, clampOf}
 use Rattle.scalar.specs.Signs.{absOf, signumOf}
 use Rattle.vec.specs.declared.Vec3.{Vec3}
@@ -11,9 +11,8 @@ use Rattle.vec.specs.Vec.{vsplat, vsub, vscale, vdot, vlength, vmax, vabs}
 use Rattle.sdf.specs.declared.Shape.{Shape}
 use Rattle.sdf.specs.declared.Shape.the-variants.{Sphere, RoundBox, Plane, Capsule, Torus, Cylinder, Cone}
 
--- 1e-12
 abbrev pub tiny : Float
-tiny = ofBits binary32 0x2b8c_bccc
+tiny = f1e-12
 
 unfoldable pub sphere : Vec3 → Float → Vec3 → Float
 sphere c r p = vlength (vsub p c) ⊖ r
