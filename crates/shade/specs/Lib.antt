@@ -1,0 +1,5 @@
+pub mod Panels
+pub mod Reach
+pub mod Lobe
+pub mod Direct
+pub mod Emitter

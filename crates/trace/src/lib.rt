@@ -1,0 +1,185 @@
+// Marches through a plan's field, by the tree or by the list: to what a ray meets, and to how much of a light is seen.
+ghost use mathlib.Core.Path.{_≡_};
+ghost use Rattle.bvh_search.specs.Field.{fieldBy};
+ghost use Rattle.trace.specs.Trace.{epsOf, pointAt, steppedOf, traceOf};
+ghost use Rattle.trace.specs.Shadow.{gapOf, darkerOf, passedOf, seenOf, shadowOf};
+use plan::DistHit;
+use plan::Floats;
+use plan::Words;
+use vec::Vec3;
+
+pub const MAX_STEPS: u32 = 128;
+
+pub const SHADOW_STEPS: u32 = 96;
+
+pub struct Hit {
+    pub t: f32,
+    pub p: Vec3,
+    pub mat: u32,
+}
+
+// What a ray meets, and how many evaluations that took.
+pub enum Traced {
+    Met(Hit, u32),
+    Missed(u32),
+}
+
+// One evaluation's outcome: a hit, past the end, or on from a parameter.
+pub enum Step {
+    Found(Hit),
+    Past,
+    On(f32),
+}
+
+// How much of a light is seen, from 0 to 1, and how many evaluations that took.
+pub struct Shadow {
+    pub vis: f32,
+    pub count: u32,
+}
+
+// What a shadow's march carries: what is left of the light, the distance before, the parameter.
+pub struct Cone {
+    pub res: f32,
+    pub ph: f32,
+    pub t: f32,
+}
+
+pub enum Passed {
+    Dark,
+    Going(Cone),
+}
+
+// Where the segment before came nearest: how far back, and how near.
+pub struct Gap {
+    pub y: f32,
+    pub d: f32,
+}
+
+fn eps(t: f32) -> f32
+    ensures { λ r. ⌜ r ≡ epsOf t ⌝ }
+{
+    0.0001 * scalar::max(t, 1.0)
+}
+
+fn point_at(ro: Vec3, rd: Vec3, t: f32) -> Vec3
+    ensures { λ r. ⌜ r ≡ pointAt ro rd t ⌝ }
+{
+    ro.add(rd.scale(t))
+}
+
+// The hit is tested before the end.
+fn stepped(h: DistHit, p: Vec3, t: f32, tmax: f32) -> Step
+    ensures { λ r. ⌜ r ≡ steppedOf h p t tmax ⌝ }
+{
+    if h.d < eps(t) {
+        return Step::Found(Hit { t, p, mat: h.mat });
+    }
+    let next = t + h.d;
+    if next > tmax {
+        return Step::Past;
+    }
+    Step::On(next)
+}
+
+// It evaluates once even where tmin is above tmax.
+pub fn trace(tree: u32, ws: &Words, fs: &Floats, ro: Vec3, rd: Vec3, tmin: f32, tmax: f32) -> Traced
+    ensures { λ r. ⌜ r ≡ traceOf (fieldBy tree (now (ws .entry)) (now (fs .entry))) ro rd tmin tmax ⌝ }
+{
+    let mut t = tmin;
+    let mut steps: u32 = 0;
+    while steps < MAX_STEPS {
+        let p = point_at(ro, rd, t);
+        let h = bvh_search::field(tree, ws, fs, p);
+        steps += 1;
+        match stepped(h, p, t, tmax) {
+            Step::Found(hit) => return Traced::Met(hit, steps),
+            Step::Past => return Traced::Missed(steps),
+            Step::On(next) => t = next,
+        }
+    }
+    Traced::Missed(steps)
+}
+
+// Receding, the nearest was the sample before.
+fn gap(h: f32, ph: f32) -> Gap
+    ensures { λ r. ⌜ r ≡ gapOf h ph ⌝ }
+{
+    if h < ph {
+        let y = h * h / (2.0 * ph);
+        return Gap {
+            y,
+            d: root::root(scalar::max(h * h - y * y, 0.0)),
+        };
+    }
+    Gap { y: 0.0, d: h }
+}
+
+// What is left of the light after the distance h.
+fn darker(c: Cone, h: f32, k: f32) -> f32
+    ensures { λ r. ⌜ r ≡ darkerOf c h k ⌝ }
+{
+    let g = gap(h, c.ph);
+    scalar::min(c.res, k * g.d / scalar::max(c.t - g.y, 0.0001))
+}
+
+fn passed(c: Cone, h: f32, k: f32) -> Passed
+    ensures { λ r. ⌜ r ≡ passedOf c h k ⌝ }
+{
+    if h < 0.0001 {
+        return Passed::Dark;
+    }
+    let res = darker(c, h, k);
+    if res < 0.001 {
+        return Passed::Dark;
+    }
+    Passed::Going(Cone {
+        res,
+        ph: h,
+        t: c.t + scalar::clamp(h, 0.006, 0.12),
+    })
+}
+
+pub fn soft_shadow(
+    tree: u32,
+    ws: &Words,
+    fs: &Floats,
+    ro: Vec3,
+    rd: Vec3,
+    tmin: f32,
+    tmax: f32,
+    k: f32,
+) -> Shadow
+    ensures { λ r. ⌜ r ≡ shadowOf (fieldBy tree (now (ws .entry)) (now (fs .entry))) ro rd tmin tmax k ⌝ }
+{
+    let mut c = Cone {
+        res: 1.0,
+        ph: 1e20,
+        t: tmin,
+    };
+    let mut steps: u32 = 0;
+    while steps < SHADOW_STEPS {
+        if c.t < tmax {
+            let h = bvh_search::field(tree, ws, fs, point_at(ro, rd, c.t));
+            steps += 1;
+            match passed(c, h.d, k) {
+                Passed::Dark => return Shadow {
+                    vis: 0.0,
+                    count: steps,
+                },
+                Passed::Going(next) => c = next,
+            }
+        } else {
+            return seen(c.res, steps);
+        }
+    }
+    seen(c.res, steps)
+}
+
+fn seen(res: f32, steps: u32) -> Shadow
+    ensures { λ r. ⌜ r ≡ seenOf res steps ⌝ }
+{
+    Shadow {
+        vis: scalar::clamp(res, 0.0, 1.0),
+        count: steps,
+    }
+}
