@@ -165,9 +165,9 @@ fn clip_to_horizon(q: Quad) -> Corners
 fn on_sphere(v: Vec3) -> Vec3
     ensures { λ r. ⌜ r ≡ onSphere v ⌝ }
 {
-    let len = v.length();
-    if len > 0.000000001 {
-        return v.over(len);
+    let size = v.length();
+    if size > 0.000000001 {
+        return v.over(size);
     }
     v
 }
