@@ -33,7 +33,7 @@ fn side(z: f32) -> f32
     if z >= 0.0 { 1.0 } else { -1.0 }
 }
 
-// No degenerate case but a normal whose z is -1: there 1/0 comes in, as in the source.
+// No degenerate case: s has the sign of z, so that s + z is never 0.
 pub fn frame(n: Vec3) -> Axes
     ensures { λ r. ⌜ r ≡ frameOf n ⌝ }
 {
