@@ -34,7 +34,7 @@ use Rattle.bvh_search.specs.Demand.{Demand}
 use Rattle.bvh_search.proofs.Demand.{demand-three, search-empty}
 use Rattle.reply.specs.declared.Reply.{Reply}
 use Rattle.reply.specs.Reply.{refusedReply, replyOf}
-use Rattle.bemitondry.specs.Calls.{argVec, argFloat, treeNumber, queryNumber, queryBound, distMatNumber}
+use Rattle.bemitondry_ask.specs.Asks.{argVec, argFloat, treeNumber, queryNumber, queryBound, distMatNumber}
 
 -- the tree that a call's table holds for its plan's objects
 abbrev pub AcceptedIn : List ℕ → List Float → Tree → Type 0

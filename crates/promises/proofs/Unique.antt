@@ -5,8 +5,8 @@ use Prim.Native.Nat.{ℕ}
 use lib.Ieee.{Float}
 use Rattle.plan.specs.Plan.{Plan}
 use Rattle.reply.specs.declared.Reply.{Reply}
-use Rattle.bemitondry.specs.Entries.{EntersTable}
-use Rattle.bemitondry.specs.Trees.{BuildLeaves, OfferLeaves}
+use Rattle.bemitondry_entry.specs.Entries.{EntersTable}
+use Rattle.bemitondry_tree.specs.Trees.{BuildLeaves, OfferLeaves}
 use Rattle.wire.specs.Sent.{Sent}
 use Rattle.viewer.specs.Entries.{EntrySent, ObjectOn}
 use Rattle.viewer.specs.Trees.{BuildOn, OfferOn}

@@ -3,7 +3,7 @@
 ghost use mathlib.Core.Path.{_≡_};
 ghost use lib.ListN.{length};
 ghost use Rattle.wire.specs.Sent.{Sent};
-ghost use Rattle.bemitondry.specs.Calls.{queryReply, distMatReply};
+ghost use Rattle.bemitondry_ask.specs.Asks.{queryReply, distMatReply};
 ghost use Rattle.viewer.specs.Calls.{rootLent, acosLent, primDistLent, primBoundsLent, askReply};
 ghost use Rattle.viewer.specs.Entries.{MaterialSent, LightSent, PlaneSent, ObjectSent};
 ghost use Rattle.viewer.specs.Trees.{buildStores, BuildSent, OfferSent};
@@ -93,7 +93,7 @@ pub extern "C" fn viewer_query(
         args.len(),
         out.len(),
     );
-    wire::send(bemitondry::query(n, tree, &ws, &fs), out)
+    wire::send(bemitondry_ask::query(n, tree, &ws, &fs), out)
 }
 
 #[no_mangle]
@@ -123,7 +123,7 @@ pub extern "C" fn viewer_dist_mat(
         args.len(),
         out.len(),
     );
-    wire::send(bemitondry::dist_mat(n, tree, &ws, &fs), out)
+    wire::send(bemitondry_ask::dist_mat(n, tree, &ws, &fs), out)
 }
 
 #[no_mangle]
@@ -136,7 +136,7 @@ pub extern "C" fn viewer_add_material(plan: &mut [u8], args: &[u8], out: &mut [u
     let mut fs = [0.0f32; plan::TABLE];
     wire::load_plan(20, plan, args, &mut ws, &mut fs);
     let n = wire::plan_before(plan.len(), 20, args.len(), out.len());
-    let r = bemitondry::add_material(n, &mut ws, &fs);
+    let r = bemitondry_entry::add_material(n, &mut ws, &fs);
     wire::store_plan(r.number == 0, &ws, plan);
     wire::send(r, out)
 }
@@ -151,7 +151,7 @@ pub extern "C" fn viewer_add_light(plan: &mut [u8], args: &[u8], out: &mut [u8])
     let mut fs = [0.0f32; plan::TABLE];
     wire::load_plan(60, plan, args, &mut ws, &mut fs);
     let n = wire::plan_before(plan.len(), 60, args.len(), out.len());
-    let r = bemitondry::add_light(n, &mut ws, &fs);
+    let r = bemitondry_entry::add_light(n, &mut ws, &fs);
     wire::store_plan(r.number == 0, &ws, plan);
     wire::send(r, out)
 }
@@ -166,7 +166,7 @@ pub extern "C" fn viewer_add_plane(plan: &mut [u8], args: &[u8], out: &mut [u8])
     let mut fs = [0.0f32; plan::TABLE];
     wire::load_plan(64, plan, args, &mut ws, &mut fs);
     let n = wire::plan_before(plan.len(), 64, args.len(), out.len());
-    let r = bemitondry::add_piece(n, true, &mut ws, &fs, args.len());
+    let r = bemitondry_entry::add_piece(n, true, &mut ws, &fs, args.len());
     wire::store_plan(r.number == 0, &ws, plan);
     wire::send(r, out)
 }
@@ -194,7 +194,7 @@ pub extern "C" fn viewer_add_object(
         args.len(),
         out.len(),
     );
-    let r = bemitondry::add_piece(n, false, &mut ws, &fs, args.len());
+    let r = bemitondry_entry::add_piece(n, false, &mut ws, &fs, args.len());
     wire::store_plan(r.number == 0, &ws, plan);
     wire::clear(r.number == 0, nodes, wire::NODES_BYTES);
     wire::clear(r.number == 0, order, wire::ORDER_BYTES);
@@ -228,7 +228,7 @@ pub extern "C" fn viewer_build(
     let n = wire::tree_tables_before(plan.len(), nodes.len(), order.len(), 0, 0, out.len());
     let mut nw = [0u32; plan::NODES_WORDS];
     let mut ow = [0u32; plan::ORDER_WORDS];
-    let r = bemitondry::build(n, &ws, &fs, &mut nw, &mut ow);
+    let r = bemitondry_tree::build(n, &ws, &fs, &mut nw, &mut ow);
     let stores = build_stores(r.number);
     wire::store_nodes(stores, &nw, nodes);
     wire::store_order(stores, &ow, order);
@@ -258,7 +258,7 @@ pub extern "C" fn viewer_offer(
     );
     let mut nw = [0u32; plan::NODES_WORDS];
     let mut ow = [0u32; plan::ORDER_WORDS];
-    let r = bemitondry::offer(n, &ws, &fs, &mut nw, &mut ow);
+    let r = bemitondry_tree::offer(n, &ws, &fs, &mut nw, &mut ow);
     wire::store_nodes(r.number == 0, &nw, nodes);
     wire::store_order(r.number == 0, &ow, order);
     wire::send(r, out)
