@@ -18,7 +18,7 @@ unfoldable pub viewOf : Vec3 → Vec3 → Material → View
 viewOf n v m =
     record {
       v = v;
-      n-dot-v = fmax (vdot n v) f1e-4;
+      nv = fmax (vdot n v) f1e-4;
       alpha = fmax (m .roughness ⊗ m .roughness) f1e-3;
       f0 = f0Of (m .albedo) (m .metallic);
       kd = diffuseAlbedoOf (m .albedo) (m .metallic);
@@ -49,7 +49,7 @@ lobeOf w n l nl wide =
     let energy = w .alpha ⊘ wide ⊗ (w .alpha ⊘ wide) in
     let h = vnormalize (vadd l (w .v)) in
     let d = dGgxOf (fmax (vdot n h) f0) wide in
-    vscale (fresnelOf (fmax (vdot l h) f0) (w .f0)) (d ⊗ vSmithOf (w .n-dot-v) nl wide ⊗ energy ⊗ nl)
+    vscale (fresnelOf (fmax (vdot l h) f0) (w .f0)) (d ⊗ vSmithOf (w .nv) nl wide ⊗ energy ⊗ nl)
 
 -- `out` with the lobe toward `to`, none where that has no length or lies behind
 unfoldable pub glossOf : View → Vec3 → Vec3 → Float → Vec3 → Vec3 → Vec3

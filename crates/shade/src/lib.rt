@@ -10,7 +10,7 @@ ghost use Rattle.shade.specs.Reach.{shadowAt, reachOf};
 ghost use Rattle.shade.specs.Lobe.{viewOf, mirrorOf, towardOf, repOf, wideOf, lobeOf, glossOf};
 ghost use Rattle.shade.specs.Direct.{diffuseStep, directStep, directDiffuseOf, directOf, panelsIn};
 ghost use Rattle.shade.specs.Emitter.{nearerThan, showsOf, emitterStep};
-use ltc::Frame;
+use ltc::Axes;
 use plan::Floats;
 use plan::Material;
 use plan::QuadLight;
@@ -32,7 +32,7 @@ pub struct Panel {
 pub struct Site {
     pub p: Vec3,
     pub n: Vec3,
-    pub frame: Frame,
+    pub frame: Axes,
 }
 
 // How much of a panel a site sees: its share of the hemisphere, what no shadow takes, and the panel's radius.
@@ -51,7 +51,7 @@ pub enum Reach {
 // A view of a surface: the cosine, the lobe's width, and the shares of the lobe and of the rest.
 pub struct View {
     pub v: Vec3,
-    pub n_dot_v: f32,
+    pub nv: f32,
     pub alpha: f32,
     pub f0: Vec3,
     pub kd: Vec3,
@@ -72,17 +72,17 @@ pub enum Emitted {
 pub fn panel_of(l: QuadLight) -> Panel
     ensures { λ r. ⌜ r ≡ panelOf l ⌝ }
 {
-    let q = Quad {
-        v0: l.v0,
-        v1: l.v1,
-        v2: l.v2,
-        v3: l.v3,
-    };
+    let v0 = l.v0;
+    let v1 = l.v1;
+    let v2 = l.v2;
+    let v3 = l.v3;
+    let emit = l.emit;
+    let quad = Quad { v0, v1, v2, v3 };
     Panel {
-        quad: q,
-        center: q.center(),
-        normal: q.normal(),
-        emit: l.emit,
+        quad,
+        center: quad.center(),
+        normal: quad.normal(),
+        emit,
     }
 }
 
@@ -96,12 +96,12 @@ fn site_of(p: Vec3, n: Vec3) -> Site
     }
 }
 
-// Whether the panel faces away from a point that `to_light` leads from.
-fn culled(a: Panel, to_light: Vec3) -> bool
-    ensures { λ r. ⌜ r ≡ culledOf a to-light ⌝ }
+// Whether the panel faces away from a point that `to` leads from.
+fn culled(a: Panel, to: Vec3) -> bool
+    ensures { λ r. ⌜ r ≡ culledOf a to ⌝ }
 {
     let normal = a.normal;
-    normal.dot(to_light.normalize().neg()) <= 0.0
+    normal.dot(to.normalize().neg()) <= 0.0
 }
 
 fn radius_of(a: Panel) -> f32
@@ -146,10 +146,10 @@ pub fn panels_number(ws: &Words, fs: &Floats, p: Vec3) -> u32
 }
 
 // One cone, as tight as the panel is small; it ends more than a radius short of the panel.
-fn shadow_at(tree: u32, ws: &Words, fs: &Floats, s: Site, to_light: Vec3, radius: f32) -> Shadow
-    ensures { λ r. ⌜ r ≡ shadowAt (fieldBy tree (now (ws .entry)) (now (fs .entry))) s to-light radius ⌝ }
+fn shadow_at(tree: u32, ws: &Words, fs: &Floats, s: Site, to: Vec3, radius: f32) -> Shadow
+    ensures { λ r. ⌜ r ≡ shadowAt (fieldBy tree (now (ws .entry)) (now (fs .entry))) s to radius ⌝ }
 {
-    let dist = to_light.length();
+    let dist = to.length();
     let k = scalar::clamp(dist / radius, 1.5, 96.0);
     let end = scalar::max(dist - radius * 1.25, 0.05);
     let p = s.p;
@@ -159,19 +159,19 @@ fn shadow_at(tree: u32, ws: &Words, fs: &Floats, s: Site, to_light: Vec3, radius
         ws,
         fs,
         p.add(n.scale(0.003)),
-        to_light.over(dist),
+        to.over(dist),
         0.015,
         end,
         k,
     )
 }
 
-fn reach(tree: u32, ws: &Words, fs: &Floats, s: Site, a: Panel) -> Reach
+fn reach_of(tree: u32, ws: &Words, fs: &Floats, s: Site, a: Panel) -> Reach
     ensures { λ r. ⌜ r ≡ reachOf (fieldBy tree (now (ws .entry)) (now (fs .entry))) s a ⌝ }
 {
     let center = a.center;
-    let to_light = center.sub(s.p);
-    if culled(a, to_light) {
+    let to = center.sub(s.p);
+    if culled(a, to) {
         return Reach::Shut(0);
     }
     let ff = ltc::quad_form_factor(ltc::to_local(a.quad, s.p, s.frame, s.n));
@@ -179,7 +179,7 @@ fn reach(tree: u32, ws: &Words, fs: &Floats, s: Site, a: Panel) -> Reach
         return Reach::Shut(0);
     }
     let radius = radius_of(a);
-    let shadow = shadow_at(tree, ws, fs, s, to_light, radius);
+    let shadow = shadow_at(tree, ws, fs, s, to, radius);
     if shadow.vis <= 0.0001 {
         return Reach::Shut(shadow.count);
     }
@@ -205,7 +205,7 @@ fn diffuse_step(
 ) -> Lit
     ensures { λ r. ⌜ r ≡ diffuseStep (fieldBy tree (now (ws .entry)) (now (fs .entry))) s albedo out l ⌝ }
 {
-    match reach(tree, ws, fs, s, panel_of(l)) {
+    match reach_of(tree, ws, fs, s, panel_of(l)) {
         Reach::Shut(count) => Lit { light: out, count },
         Reach::Open(sight, count) => Lit {
             light: out.add(albedo.mul(l.emit).scale(sight.ff * sight.vis)),
@@ -237,7 +237,7 @@ fn view_of(n: Vec3, v: Vec3, m: Material) -> View
 {
     View {
         v,
-        n_dot_v: scalar::max(n.dot(v), 0.0001),
+        nv: scalar::max(n.dot(v), 0.0001),
         alpha: scalar::max(m.roughness * m.roughness, 0.001),
         f0: bsdf::f0_of(m.albedo, m.metallic),
         kd: bsdf::diffuse_albedo(m.albedo, m.metallic),
@@ -288,32 +288,32 @@ fn wide(alpha: f32, radius: f32, dist: f32) -> f32
     )
 }
 
-// The lobe about the direction l, with the cosine n_dot_l and the width `wide`.
-fn lobe(w: View, n: Vec3, l: Vec3, n_dot_l: f32, wide: f32) -> Vec3
-    ensures { λ r. ⌜ r ≡ lobeOf w n l n-dot-l wide ⌝ }
+// The lobe about the direction l, with the cosine nl and the width `wide`.
+fn lobe(w: View, n: Vec3, l: Vec3, nl: f32, wide: f32) -> Vec3
+    ensures { λ r. ⌜ r ≡ lobeOf w n l nl wide ⌝ }
 {
     let energy = w.alpha / wide * (w.alpha / wide);
     let h = l.add(w.v).normalize();
     let d = bsdf::d_ggx(scalar::max(n.dot(h), 0.0), wide);
-    let vis = bsdf::v_smith(w.n_dot_v, n_dot_l, wide);
+    let vis = bsdf::v_smith(w.nv, nl, wide);
     let f = bsdf::fresnel_schlick(scalar::max(l.dot(h), 0.0), w.f0);
-    f.scale(d * vis * energy * n_dot_l)
+    f.scale(d * vis * energy * nl)
 }
 
-// `out` with the lobe toward `to_rep`; none where that has no length or lies behind.
-fn gloss(w: View, n: Vec3, to_rep: Vec3, radius: f32, radiance: Vec3, out: Vec3) -> Vec3
-    ensures { λ r. ⌜ r ≡ glossOf w n to-rep radius radiance out ⌝ }
+// `out` with the lobe toward `to`; none where that has no length or lies behind.
+fn gloss(w: View, n: Vec3, to: Vec3, radius: f32, radiance: Vec3, out: Vec3) -> Vec3
+    ensures { λ r. ⌜ r ≡ glossOf w n to radius radiance out ⌝ }
 {
-    let dist = to_rep.length();
+    let dist = to.length();
     if dist == 0.0 {
         return out;
     }
-    let l = to_rep.normalize();
-    let n_dot_l = n.dot(l);
-    if n_dot_l <= 0.0 {
+    let l = to.normalize();
+    let nl = n.dot(l);
+    if nl <= 0.0 {
         return out;
     }
-    out.add(lobe(w, n, l, n_dot_l, wide(w.alpha, radius, dist)).mul(radiance))
+    out.add(lobe(w, n, l, nl, wide(w.alpha, radius, dist)).mul(radiance))
 }
 
 // One panel's light, added to `out`: the diffuse part, then the lobe.
@@ -321,16 +321,16 @@ fn direct_step(tree: u32, ws: &Words, fs: &Floats, s: Site, w: View, out: Vec3, 
     ensures { λ r. ⌜ r ≡ directStep (fieldBy tree (now (ws .entry)) (now (fs .entry))) s w out l ⌝ }
 {
     let a = panel_of(l);
-    match reach(tree, ws, fs, s, a) {
+    match reach_of(tree, ws, fs, s, a) {
         Reach::Shut(count) => Lit { light: out, count },
         Reach::Open(sight, count) => {
-            let emit = l.emit;
+            let emit = a.emit;
             let radiance = emit.scale(sight.vis);
             let kd = w.kd;
             let matt = out.add(kd.mul(radiance).scale(sight.ff));
-            let to_rep = rep(s, w.v, a).sub(s.p);
+            let to = rep(s, w.v, a).sub(s.p);
             Lit {
-                light: gloss(w, s.n, to_rep, sight.radius, radiance, matt),
+                light: gloss(w, s.n, to, sight.radius, radiance, matt),
                 count,
             }
         }
@@ -388,7 +388,8 @@ pub fn emitter_step(best: Emitted, l: QuadLight, ro: Vec3, rd: Vec3, tmax: f32) 
         Crossing::Apart => best,
         Crossing::At(t) => {
             if shows(best, a, rd, tmax, t) {
-                return Emitted::Shows(t, l.emit);
+                let emit = a.emit;
+                return Emitted::Shows(t, emit);
             }
             best
         }

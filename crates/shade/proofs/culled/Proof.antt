@@ -1,0 +1,13 @@
+-- `shade::culled` meets its contract, by those of its calls. Assumes nothing.
+use Rattle.shade.specs.Panels.{culledOf}
+use borrow.Author.Needs.{needs}
+use Rattle.shade.proofs.culled.Statement.{statement}
+use Rattle.shade.proofs.culled.Tie as tie
+
+returns : tie.Need-returns
+unfolding culledOf
+returns c = cc
+
+pub culled-spec : {M : Type 1} → statement M
+culled-spec = tie.close (tie.spec
+    (λ c κs. search needs) (λ c κs. search needs) (λ c κs. search needs) returns)

@@ -1,0 +1,21 @@
+-- `shade::rep` meets its contract: a return for each case. Assumes nothing.
+use mathlib.Core.Path.{sym}
+use Rattle.shade.specs.Lobe.{repOf}
+use borrow.Author.Needs.{needs}
+use Rattle.shade.proofs.rep.Statement.{statement}
+use Rattle.shade.proofs.rep.Tie as tie
+
+returns : tie.Need-returns
+unfolding repOf
+returns c = rw (sym (c .before .before .before .before .before .before .before .before .mirror .ensures), sym (c .before .before .before .before .before .before .before .dot .ensures), sym (c .before .before .before .before .before .before .abs .ensures), c .before .before .before .before .before .if1 .taken) (cc)
+
+returns-2 : tie.Need-returns-2
+unfolding repOf
+returns-2 c = rw (sym (c .before .before .before .before .mirror .ensures), sym (c .before .before .before .dot .ensures), sym (c .before .before .abs .ensures), c .before .if1 .left)
+
+pub rep-spec : {M : Type 1} → statement M
+rep-spec =
+    tie.close
+    (tie.spec
+    (λ c κs. search needs) (λ c κs. search needs) (λ c κs. search needs) (λ c κs. search needs)
+    (λ c κs. search needs) (λ c κs. search needs) returns returns-2)
