@@ -14,9 +14,14 @@ returns c =
     let n = t .before in
     let s = n .before .before in
     let w = s .before in
-    rw
-    (sym (w .before .vec-at .ensures), sym (w .within .ensures), sym (s .solids-ask .ensures),
-     sym (n .before .tree-number .ensures), sym (n .lower .ensures), eq-eqb _ 0 (t .if1 .taken))
+    rw (
+      sym (w .before .vec-at .ensures),
+      sym (w .within .ensures),
+      sym (s .solids-ask .ensures),
+      sym (n .before .tree-number .ensures),
+      sym (n .lower .ensures),
+      eq-eqb _ 0 (t .if1 .taken),
+    )
     (rw (c .found-reply .ensures, c .before .field .ensures))
 
 returns-2 : tie.Need-returns-2
@@ -26,9 +31,14 @@ returns-2 c =
     let n = t .before in
     let s = n .before .before in
     let w = s .before in
-    rw
-    (sym (w .before .vec-at .ensures), sym (w .within .ensures), sym (s .solids-ask .ensures),
-     sym (n .before .tree-number .ensures), sym (n .lower .ensures), ne-eqb _ 0 (t .if1 .left))
+    rw (
+      sym (w .before .vec-at .ensures),
+      sym (w .within .ensures),
+      sym (s .solids-ask .ensures),
+      sym (n .before .tree-number .ensures),
+      sym (n .lower .ensures),
+      ne-eqb _ 0 (t .if1 .left),
+    )
     (c .refused .ensures)
 
 pub dist-mat-spec : {M : Type 1} → statement M

@@ -15,10 +15,17 @@ returns c =
     let s = n .before .before in
     let y = s .before .before .before in
     let d = y .before .before .before .before in
-    rw
-    (sym (d .before .vec-at .ensures), sym (d .vec-at2 .ensures), sym (y .ray-ok .ensures),
-     sym (s .before .before .up-to .ensures), sym (s .before .both .ensures), sym (s .solids-ask .ensures),
-     sym (n .before .tree-number .ensures), sym (n .lower .ensures), eq-eqb _ 0 (t .if1 .taken))
+    rw (
+      sym (d .before .vec-at .ensures),
+      sym (d .vec-at2 .ensures),
+      sym (y .ray-ok .ensures),
+      sym (s .before .before .up-to .ensures),
+      sym (s .before .both .ensures),
+      sym (s .solids-ask .ensures),
+      sym (n .before .tree-number .ensures),
+      sym (n .lower .ensures),
+      eq-eqb _ 0 (t .if1 .taken),
+    )
     (rw (c .done .ensures, c .before .bits .ensures, c .before .before .soft-shadow .ensures))
 
 returns-2 : tie.Need-returns-2
@@ -29,10 +36,17 @@ returns-2 c =
     let s = n .before .before in
     let y = s .before .before .before in
     let d = y .before .before .before .before in
-    rw
-    (sym (d .before .vec-at .ensures), sym (d .vec-at2 .ensures), sym (y .ray-ok .ensures),
-     sym (s .before .before .up-to .ensures), sym (s .before .both .ensures), sym (s .solids-ask .ensures),
-     sym (n .before .tree-number .ensures), sym (n .lower .ensures), ne-eqb _ 0 (t .if1 .left))
+    rw (
+      sym (d .before .vec-at .ensures),
+      sym (d .vec-at2 .ensures),
+      sym (y .ray-ok .ensures),
+      sym (s .before .before .up-to .ensures),
+      sym (s .before .both .ensures),
+      sym (s .solids-ask .ensures),
+      sym (n .before .tree-number .ensures),
+      sym (n .lower .ensures),
+      ne-eqb _ 0 (t .if1 .left),
+    )
     (c .refused .ensures)
 
 pub soft-shadow-spec : {M : Type 1} → statement M
