@@ -30,7 +30,7 @@ use Rattle.shade.specs.declared.Reach.{Reach}
 use Rattle.shade.specs.declared.Reach.the-variants.{Shut, Open}
 use Rattle.shade.specs.declared.Lit.{Lit}
 use Rattle.shade.specs.Panels.{culledOf, radiusOf}
-use Rattle.shade.specs.Reach.{toLight, shareOf, shadowAt, reachOf}
+use Rattle.shade.specs.Reach.{toLight, shareOf, shadowAt, sightOf, reachOf}
 use Rattle.shade.specs.Direct.{litBy, diffuseStep, directStep, lightsBy, directDiffuseOf, directOf, panelsIn}
 
 -- ---- the lights gone through
@@ -60,7 +60,7 @@ shadow-most field s to radius = rw shadow-count (shadow-few _ _ _ _ _ _)
 reach-most
     : (field : Field) (s : Site) (a : Panel) (shine : Sight → Vec3) (out : Vec3)
     → litBy shine out (reachOf field s a) .count ≤ 96
-unfolding reachOf
+unfolding reachOf sightOf
 reach-most field s a shine out =
     go (culledOf a (toLight s a)) (le (shareOf s a) f1e-6) (le (shadowAt field s (toLight s a) (radiusOf a) .vis) f1e-4)
     _ _ (shadow-most field s (toLight s a) (radiusOf a))
@@ -119,11 +119,15 @@ module _ (step : Vec3 → QuadLight → Lit) where
           record { fits = omega arith }
 
 -- ---- the counts of the calls
-pub diffuse-most : (field : Field) (s : Site) (albedo out : Vec3) (l : QuadLight) → diffuseStep field s albedo out l .count ≤ 96
+pub diffuse-most
+    : (field : Field) (s : Site) (albedo out : Vec3) (l : QuadLight)
+    → diffuseStep field s albedo out l .count ≤ 96
 unfolding diffuseStep
 diffuse-most field s albedo out l = reach-most field s _ _ out
 
-pub step-most : (field : Field) (s : Site) (w : View) (out : Vec3) (l : QuadLight) → directStep field s w out l .count ≤ 96
+pub step-most
+    : (field : Field) (s : Site) (w : View) (out : Vec3) (l : QuadLight)
+    → directStep field s w out l .count ≤ 96
 unfolding directStep
 step-most field s w out l = reach-most field s _ _ out
 

@@ -32,8 +32,8 @@ unfoldable pub diffuseStep : Field → Site → Vec3 → Vec3 → QuadLight → 
 diffuseStep field s albedo out l =
     litBy (λ (g : Sight). vadd out (vscale (vmul albedo (l .emit)) (g .ff ⊗ g .vis))) out (reachOf field s (panelOf l))
 
--- the diffuse part, then the lobe
-abbrev pub shone : Site → View → Panel → Vec3 → Sight → Vec3
+-- `out` with the light of the panel a that is seen so: the diffuse part, then the lobe
+unfoldable pub shone : Site → View → Panel → Vec3 → Sight → Vec3
 shone s w a out g =
     let radiance = vscale (a .emit) (g .vis) in
     glossOf w (s .n) (vsub (repOf s (w .v) a) (s .p)) (g .radius) radiance

@@ -31,7 +31,8 @@ shadowAt field s to radius =
     shadowOf field (vadd (s .p) (vscale (s .n) f3e-3)) (vover to dist) f0·015 (fmax (dist ⊖ radius ⊗ f1·25) f0·05)
     (clampOf (dist ⊘ radius) f1·5 f96)
 
-abbrev pub sightOf : Float → Float → Shadow → Reach
+-- what is seen past a shadow: nothing where that leaves next to no light
+unfoldable pub sightOf : Float → Float → Shadow → Reach
 sightOf ff radius shadow =
     cond (le (shadow .vis) f1e-4) (Shut (shadow .count))
     (Open (record { ff = ff; vis = shadow .vis; radius = radius }) (shadow .count))

@@ -6,9 +6,9 @@ ghost use Rattle.plan.specs.Sections.{lights};
 ghost use Rattle.plan.specs.Plan.{planOf};
 ghost use Rattle.bvh_search.specs.Field.{fieldBy};
 ghost use Rattle.shade.specs.Panels.{panelOf, siteOf, culledOf, radiusOf, atLightNumber, panelsNumber};
-ghost use Rattle.shade.specs.Reach.{shadowAt, reachOf};
+ghost use Rattle.shade.specs.Reach.{shadowAt, sightOf, reachOf};
 ghost use Rattle.shade.specs.Lobe.{viewOf, mirrorOf, towardOf, repOf, wideOf, lobeOf, glossOf};
-ghost use Rattle.shade.specs.Direct.{diffuseStep, directStep, directDiffuseOf, directOf, panelsIn};
+ghost use Rattle.shade.specs.Direct.{diffuseStep, shone, directStep, directDiffuseOf, directOf, panelsIn};
 ghost use Rattle.shade.specs.Emitter.{nearerThan, showsOf, emitterStep};
 use ltc::Axes;
 use plan::Floats;
@@ -166,6 +166,23 @@ fn shadow_at(tree: u32, ws: &Words, fs: &Floats, s: Site, to: Vec3, radius: f32)
     )
 }
 
+// What is seen of a panel past its shadow; nothing where that leaves next to no light.
+fn sight_of(ff: f32, radius: f32, shadow: Shadow) -> Reach
+    ensures { λ r. ⌜ r ≡ sightOf ff radius shadow ⌝ }
+{
+    if shadow.vis <= 0.0001 {
+        return Reach::Shut(shadow.count);
+    }
+    Reach::Open(
+        Sight {
+            ff,
+            vis: shadow.vis,
+            radius,
+        },
+        shadow.count,
+    )
+}
+
 fn reach_of(tree: u32, ws: &Words, fs: &Floats, s: Site, a: Panel) -> Reach
     ensures { λ r. ⌜ r ≡ reachOf (fieldBy tree (now (ws .entry)) (now (fs .entry))) s a ⌝ }
 {
@@ -179,18 +196,7 @@ fn reach_of(tree: u32, ws: &Words, fs: &Floats, s: Site, a: Panel) -> Reach
         return Reach::Shut(0);
     }
     let radius = radius_of(a);
-    let shadow = shadow_at(tree, ws, fs, s, to, radius);
-    if shadow.vis <= 0.0001 {
-        return Reach::Shut(shadow.count);
-    }
-    Reach::Open(
-        Sight {
-            ff,
-            vis: shadow.vis,
-            radius,
-        },
-        shadow.count,
-    )
+    sight_of(ff, radius, shadow_at(tree, ws, fs, s, to, radius))
 }
 
 // One panel's diffuse light, added to `out`, and the evaluations that it took.
@@ -316,24 +322,28 @@ fn gloss(w: View, n: Vec3, to: Vec3, radius: f32, radiance: Vec3, out: Vec3) -> 
     out.add(lobe(w, n, l, nl, wide(w.alpha, radius, dist)).mul(radiance))
 }
 
-// One panel's light, added to `out`: the diffuse part, then the lobe.
+// `out` with the light of the panel a that is seen so: the diffuse part, then the lobe.
+fn shone(s: Site, w: View, a: Panel, out: Vec3, g: Sight) -> Vec3
+    ensures { λ r. ⌜ r ≡ shone s w a out g ⌝ }
+{
+    let emit = a.emit;
+    let radiance = emit.scale(g.vis);
+    let kd = w.kd;
+    let matt = out.add(kd.mul(radiance).scale(g.ff));
+    gloss(w, s.n, rep(s, w.v, a).sub(s.p), g.radius, radiance, matt)
+}
+
+// One panel's light, added to `out`, and the evaluations that it took.
 fn direct_step(tree: u32, ws: &Words, fs: &Floats, s: Site, w: View, out: Vec3, l: QuadLight) -> Lit
     ensures { λ r. ⌜ r ≡ directStep (fieldBy tree (now (ws .entry)) (now (fs .entry))) s w out l ⌝ }
 {
     let a = panel_of(l);
     match reach_of(tree, ws, fs, s, a) {
         Reach::Shut(count) => Lit { light: out, count },
-        Reach::Open(sight, count) => {
-            let emit = a.emit;
-            let radiance = emit.scale(sight.vis);
-            let kd = w.kd;
-            let matt = out.add(kd.mul(radiance).scale(sight.ff));
-            let to = rep(s, w.v, a).sub(s.p);
-            Lit {
-                light: gloss(w, s.n, to, sight.radius, radiance, matt),
-                count,
-            }
-        }
+        Reach::Open(sight, count) => Lit {
+            light: shone(s, w, a, out, sight),
+            count,
+        },
     }
 }
 

@@ -7,11 +7,25 @@ use Rattle.shade.proofs.at_light_number.Tie as tie
 
 returns : tie.Need-returns
 unfolding atLightNumber
-returns c = rw (sym (c .before .before .before .before .panel-of .ensures), sym (c .before .before .sub .ensures), sym (c .before .length .ensures), c .if1 .taken)
+returns c =
+    let d = c .before .before in
+    rw (
+      sym (d .before .before .panel-of .ensures),
+      sym (d .sub .ensures),
+      sym (c .before .length .ensures),
+      c .if1 .taken,
+    )
 
 returns-2 : tie.Need-returns-2
 unfolding atLightNumber
-returns-2 c = rw (sym (c .before .before .before .before .panel-of .ensures), sym (c .before .before .sub .ensures), sym (c .before .length .ensures), c .if1 .left)
+returns-2 c =
+    let d = c .before .before in
+    rw (
+      sym (d .before .before .panel-of .ensures),
+      sym (d .sub .ensures),
+      sym (c .before .length .ensures),
+      c .if1 .left,
+    )
 
 pub at-light-number-spec : {M : Type 1} → statement M
 at-light-number-spec =

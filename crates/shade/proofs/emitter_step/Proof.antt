@@ -7,15 +7,35 @@ use Rattle.shade.proofs.emitter_step.Tie as tie
 
 returns : tie.Need-returns
 unfolding emitterStep
-returns c = rw (sym (c .before .before .before .before .before .before .before .before .panel-of .ensures), sym (c .before .before .before .before .before .before .intersect .ensures), c .before .before .before .before .t .given .1, sym (c .before .before .shows .ensures), c .before .if1 .taken)
+returns c =
+    let t = c .before .before .before .before in
+    let m = t .before .before in
+    rw (
+      sym (m .before .before .panel-of .ensures),
+      sym (m .intersect .ensures),
+      t .t .given .1,
+      sym (c .before .before .shows .ensures),
+      c .before .if1 .taken,
+    )
 
 returns-2 : tie.Need-returns-2
 unfolding emitterStep
-returns-2 c = rw (sym (c .before .before .before .before .panel-of .ensures), sym (c .before .before .intersect .ensures), c .enum-told .given .1)
+returns-2 c =
+    let m = c .before .before in
+    rw (sym (m .before .before .panel-of .ensures), sym (m .intersect .ensures), c .enum-told .given .1)
 
 returns-3 : tie.Need-returns-3
 unfolding emitterStep
-returns-3 c = rw (sym (c .before .before .before .before .before .before .before .panel-of .ensures), sym (c .before .before .before .before .before .intersect .ensures), c .before .before .before .t .given .1, sym (c .before .shows .ensures), c .if1 .left)
+returns-3 c =
+    let t = c .before .before .before in
+    let m = t .before .before in
+    rw (
+      sym (m .before .before .panel-of .ensures),
+      sym (m .intersect .ensures),
+      t .t .given .1,
+      sym (c .before .shows .ensures),
+      c .if1 .left,
+    )
 
 pub emitter-step-spec : {M : Type 1} → statement M
 emitter-step-spec =

@@ -11,11 +11,28 @@ returns c = rw (sym (c .before .length .ensures), c .if1 .taken)
 
 returns-2 : tie.Need-returns-2
 unfolding glossOf
-returns-2 c = rw (sym (c .before .before .before .before .length .ensures), c .before .before .before .if1 .left, sym (c .before .before .normalize .ensures), sym (c .before .dot .ensures), c .if2 .taken)
+returns-2 c =
+    let d = c .before .before in
+    rw (
+      sym (d .before .before .length .ensures),
+      d .before .if1 .left,
+      sym (d .normalize .ensures),
+      sym (c .before .dot .ensures),
+      c .if2 .taken,
+    )
 
 returns-3 : tie.Need-returns-3
 unfolding glossOf
-returns-3 c = rw (sym (c .before .before .before .before .before .before .before .before .length .ensures), c .before .before .before .before .before .before .before .if1 .left, sym (c .before .before .before .before .before .before .normalize .ensures), sym (c .before .before .before .before .before .dot .ensures), c .before .before .before .before .if2 .left) (cc)
+returns-3 c =
+    let t = c .before .before .before .before in
+    let d = t .before .before in
+    rw (
+      sym (d .before .before .length .ensures),
+      d .before .if1 .left,
+      sym (d .normalize .ensures),
+      sym (t .before .dot .ensures),
+      t .if2 .left,
+    ) (cc)
 
 pub gloss-spec : {M : Type 1} → statement M
 gloss-spec =

@@ -7,11 +7,27 @@ use Rattle.shade.proofs.rep.Tie as tie
 
 returns : tie.Need-returns
 unfolding repOf
-returns c = rw (sym (c .before .before .before .before .before .before .before .before .mirror .ensures), sym (c .before .before .before .before .before .before .before .dot .ensures), sym (c .before .before .before .before .before .before .abs .ensures), c .before .before .before .before .before .if1 .taken) (cc)
+returns c =
+    let t = c .before .before .before .before .before in
+    let a = t .before in
+    rw (
+      sym (a .before .before .mirror .ensures),
+      sym (a .before .dot .ensures),
+      sym (a .abs .ensures),
+      t .if1 .taken,
+    ) (cc)
 
 returns-2 : tie.Need-returns-2
 unfolding repOf
-returns-2 c = rw (sym (c .before .before .before .before .mirror .ensures), sym (c .before .before .before .dot .ensures), sym (c .before .before .abs .ensures), c .before .if1 .left)
+returns-2 c =
+    let t = c .before in
+    let a = t .before in
+    rw (
+      sym (a .before .before .mirror .ensures),
+      sym (a .before .dot .ensures),
+      sym (a .abs .ensures),
+      t .if1 .left,
+    )
 
 pub rep-spec : {M : Type 1} → statement M
 rep-spec =

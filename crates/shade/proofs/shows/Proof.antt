@@ -7,7 +7,9 @@ use Rattle.shade.proofs.shows.Tie as tie
 
 returns : tie.Need-returns
 unfolding showsOf
-returns c = rw (c .before .before .before .before .if1 .taken, sym (c .before .before .dot .ensures), c .before .if2 .taken) (c .nearer-than .ensures)
+returns c =
+    let d = c .before .before in
+    rw (d .before .before .if1 .taken, sym (d .dot .ensures), c .before .if2 .taken) (c .nearer-than .ensures)
 
 returns-2 : tie.Need-returns-2
 unfolding showsOf
