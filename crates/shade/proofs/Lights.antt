@@ -1,7 +1,7 @@
 -- Loops over a plan's lights: the lights gone through are the first sixteen at most, one light more at the end is one
 -- step more, and each takes at most 96 evaluations, since a shadow does. By induction on the list. Assumes nothing.
 use Prim.Native.Nat.{ℕ, zero, suc, _+_, _*_, _≤_, _<_, min}
-use mathlib.Core.Path.{_≡_, refl, sym, ap, _∙_}
+use mathlib.Core.Path.{_≡_, refl, sym}
 use mathlib.Core.Bool.{Bool, true, false, cond}
 use mathlib.Core.List.{List, [], _∷_, _++_}
 use native.Mathlib.Nat.{zero-add}
@@ -11,7 +11,7 @@ use lib.ListN.{length, take}
 use lib.Ieee.{Float, le}
 use mir.Syntax.{w32}
 use mir.Val.{Fits}
-use Rattle.scalar.specs.F32.{f0, f1e-4, f1e-6}
+use Rattle.scalar.specs.F32.{f1e-4, f1e-6}
 use Rattle.words.specs.Lists.{listFrom}
 use Rattle.words.proofs.Runs.{from-snoc, length-from}
 use Rattle.vec.specs.declared.Vec3.{Vec3}
@@ -26,7 +26,6 @@ use Rattle.shade.specs.declared.Panel.{Panel}
 use Rattle.shade.specs.declared.Site.{Site}
 use Rattle.shade.specs.declared.Sight.{Sight}
 use Rattle.shade.specs.declared.View.{View}
-use Rattle.shade.specs.declared.Reach.{Reach}
 use Rattle.shade.specs.declared.Reach.the-variants.{Shut, Open}
 use Rattle.shade.specs.declared.Lit.{Lit}
 use Rattle.shade.specs.Panels.{culledOf, radiusOf}

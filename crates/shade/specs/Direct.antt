@@ -2,7 +2,6 @@
 -- list of lights; counts are summed. Definitions only.
 use Prim.Native.Nat.{ℕ, _+_, min}
 use mathlib.Core.List.{List, [], _∷_}
-use lib.Ieee.{Float}
 use Rattle.scalar.specs.F32.{_⊗_, f0}
 use Rattle.vec.specs.declared.Vec3.{Vec3}
 use Rattle.vec.specs.Vec.{vsplat, vadd, vsub, vmul, vscale}

@@ -1,7 +1,7 @@
 -- A light as shading uses it, a point of a surface, and number 9: "the computed length from shading point to some
 -- light's centre is 0". Definitions only.
 use Prim.Native.Nat.{ℕ}
-use mathlib.Core.Bool.{Bool, not, cond}
+use mathlib.Core.Bool.{Bool, cond}
 use mathlib.Core.List.{List}
 use lib.Ieee.{Float, le, eq}
 use Rattle.root.specs.Root.{rootOf}

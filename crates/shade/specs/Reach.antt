@@ -1,5 +1,4 @@
 -- Whether a panel reaches a point of a surface, and how: the source's `direct` up to its visibility. Definitions only.
-use Prim.Native.Nat.{ℕ}
 use mathlib.Core.Bool.{cond}
 use lib.Ieee.{Float, le}
 use Rattle.scalar.specs.F32.{_⊖_, _⊗_, _⊘_, f96, f1·25, f1·5, f0·015, f0·05, f3e-3, f1e-4, f1e-6}
