@@ -16,9 +16,9 @@ use Rattle.vec.specs.declared.Vec3.{Vec3}
 use Rattle.words.specs.Lists.{listFrom}
 use Rattle.words.proofs.Runs.{from-snoc}
 use Rattle.plan.specs.declared.QuadLight.{QuadLight}
-use Rattle.shade.specs.declared.Emitted.{Emitted}
-use Rattle.shade.specs.declared.Emitted.the-variants.{Nothing}
-use Rattle.shade.specs.Emitter.{emitterStep, emitterFrom, emitterOf}
+use Rattle.emitter.specs.declared.Emitted.{Emitted}
+use Rattle.emitter.specs.declared.Emitted.the-variants.{Nothing}
+use Rattle.emitter.specs.Emitter.{emitterStep, emitterFrom, emitterOf}
 use Rattle.bemitondry_emitter.specs.Emitter.{recordsOk, lentLight}
 
 pub records-fit : (n : ℕ) → recordsOk n ≡ true → Fits w32 (n / 60)

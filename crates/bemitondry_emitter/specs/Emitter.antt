@@ -13,9 +13,9 @@ use Rattle.refusals.specs.Refusals.{badNumber, noRoom, unless, lower, lowestOf}
 use Rattle.refusals.specs.Ranges.{farther, steep, longest, upTo, within}
 use Rattle.plan.specs.declared.QuadLight.{QuadLight}
 use Rattle.plan_test.specs.Numbers.{lightNumber}
-use Rattle.shade.specs.declared.Emitted.{Emitted}
-use Rattle.shade.specs.declared.Emitted.the-variants.{Nothing, Shows}
-use Rattle.shade.specs.Emitter.{emitterOf}
+use Rattle.emitter.specs.declared.Emitted.{Emitted}
+use Rattle.emitter.specs.declared.Emitted.the-variants.{Nothing, Shows}
+use Rattle.emitter.specs.Emitter.{emitterOf}
 use Rattle.reply.specs.declared.Reply.{Reply}
 use Rattle.reply.specs.Reply.{bits, doneReply, replyOf}
 use Rattle.wire.specs.Lent.{givenVec}

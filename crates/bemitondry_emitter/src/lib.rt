@@ -7,7 +7,7 @@ ghost use Rattle.words.specs.Lists.{listFrom};
 ghost use Rattle.refusals.specs.Refusals.{lowestOf};
 ghost use Rattle.plan_test.specs.Numbers.{lightNumber};
 ghost use Rattle.wire.specs.Lent.{givenVec};
-ghost use Rattle.shade.specs.Emitter.{emitterOf};
+ghost use Rattle.emitter.specs.Emitter.{emitterOf};
 ghost use Rattle.bemitondry_emitter.specs.Emitter.{recordsOk, recordsIn, lentLight, aimOk, emittedReply};
 ghost use Rattle.bemitondry_emitter.specs.Emitter.{emitterReply};
 use plan::QuadLight;
@@ -79,7 +79,7 @@ fn emitter_in(b: &[u8], n: u32, ro: Vec3, rd: Vec3, tmax: f32) -> Emitted
     let mut best = Emitted::Nothing;
     let mut i: u32 = 0;
     while i < n {
-        best = shade::emitter_step(best, light_in(b, i), ro, rd, tmax);
+        best = emitter::emitter_step(best, light_in(b, i), ro, rd, tmax);
         i += 1;
     }
     best

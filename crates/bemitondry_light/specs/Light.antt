@@ -17,7 +17,7 @@ use Rattle.plan_test.specs.Numbers.{materialNumber}
 use Rattle.plan_test.specs.Tests.{litNumber}
 use Rattle.bvh_search.specs.Field.{fieldBy}
 use Rattle.shade.specs.declared.Lit.{Lit}
-use Rattle.shade.specs.Panels.{panelsNumber}
+use Rattle.panel.specs.Panels.{panelsNumber}
 use Rattle.shade.specs.Direct.{directOf, directDiffuseOf}
 use Rattle.bemitondry_ask.specs.Asks.{argVec, argFloat, treeNumber}
 use Rattle.reply.specs.declared.Reply.{Reply}

@@ -32,7 +32,7 @@ use Rattle.bvh_search.specs.Search.{searched}
 use Rattle.bvh_search.specs.Field.{hitBy, fieldBy}
 use Rattle.bvh_search.specs.Demand.{Demand}
 use Rattle.bvh_search.proofs.Demand.{demand-three, search-empty}
-use Rattle.shade.specs.Panels.{panelsNumber}
+use Rattle.panel.specs.Panels.{panelsNumber}
 use Rattle.reply.specs.declared.Reply.{Reply}
 use Rattle.reply.specs.Reply.{refusedReply, replyOf}
 use Rattle.bemitondry_ask.specs.Asks.{argVec, argFloat, treeNumber, queryNumber, queryBound, solidsAsk}

@@ -22,14 +22,14 @@ use Rattle.plan.specs.Records.{lightIn}
 use Rattle.plan.specs.Plan.{planOf, countOf}
 use Rattle.trace.specs.Trace.{Field}
 use Rattle.trace.proofs.Shadows.{shadow-count, shadow-few}
-use Rattle.shade.specs.declared.Panel.{Panel}
-use Rattle.shade.specs.declared.Site.{Site}
-use Rattle.shade.specs.declared.Sight.{Sight}
-use Rattle.shade.specs.declared.View.{View}
-use Rattle.shade.specs.declared.Reach.the-variants.{Shut, Open}
+use Rattle.panel.specs.declared.Panel.{Panel}
+use Rattle.reach.specs.declared.Site.{Site}
+use Rattle.reach.specs.declared.Sight.{Sight}
+use Rattle.lobe.specs.declared.View.{View}
+use Rattle.reach.specs.declared.Reach.the-variants.{Shut, Open}
 use Rattle.shade.specs.declared.Lit.{Lit}
-use Rattle.shade.specs.Panels.{culledOf, radiusOf}
-use Rattle.shade.specs.Reach.{toLight, shareOf, shadowAt, sightOf, reachOf}
+use Rattle.panel.specs.Panels.{culledOf, radiusOf}
+use Rattle.reach.specs.Reach.{toLight, shareOf, shadowAt, sightOf, reachOf}
 use Rattle.shade.specs.Direct.{litBy, diffuseStep, directStep, lightsBy, directDiffuseOf, directOf, panelsIn}
 
 -- ---- the lights gone through

@@ -10,16 +10,17 @@ use Rattle.plan.specs.declared.QuadLight.{QuadLight}
 use Rattle.plan.specs.Sections.{lights}
 use Rattle.plan.specs.Plan.{countOf}
 use Rattle.trace.specs.Trace.{Field}
-use Rattle.shade.specs.declared.Panel.{Panel}
-use Rattle.shade.specs.declared.Site.{Site}
-use Rattle.shade.specs.declared.Sight.{Sight}
-use Rattle.shade.specs.declared.View.{View}
-use Rattle.shade.specs.declared.Reach.{Reach}
-use Rattle.shade.specs.declared.Reach.the-variants.{Shut, Open}
+use Rattle.panel.specs.declared.Panel.{Panel}
+use Rattle.reach.specs.declared.Site.{Site}
+use Rattle.reach.specs.declared.Sight.{Sight}
+use Rattle.lobe.specs.declared.View.{View}
+use Rattle.reach.specs.declared.Reach.{Reach}
+use Rattle.reach.specs.declared.Reach.the-variants.{Shut, Open}
 use Rattle.shade.specs.declared.Lit.{Lit}
-use Rattle.shade.specs.Panels.{panelOf, siteOf}
-use Rattle.shade.specs.Reach.{reachOf}
-use Rattle.shade.specs.Lobe.{viewOf, repOf, glossOf}
+use Rattle.panel.specs.Panels.{panelOf}
+use Rattle.reach.specs.Reach.{siteOf}
+use Rattle.reach.specs.Reach.{reachOf}
+use Rattle.lobe.specs.Lobe.{viewOf, repOf, glossOf}
 
 -- `out` stays where a panel does not reach; else `shine` adds to it
 abbrev pub litBy : (Sight → Vec3) → Vec3 → Reach → Lit

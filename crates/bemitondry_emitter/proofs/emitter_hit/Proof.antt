@@ -15,11 +15,18 @@ returns c =
     let g = n .before .before .before in
     let a = g .before .before in
     let r = a .before .before in
-    rw
-    (sym (r .before .records-in .ensures), sym (r .records-ok .ensures), sym (a .before .unless .ensures),
-     sym (a .aim-ok .ensures), sym (g .before .unless2 .ensures), sym (g .lower .ensures),
-     sym (n .before .before .lights-number .ensures), sym (n .before .lower2 .ensures), sym (n .lower3 .ensures),
-     eq-eqb _ 0 (t .if1 .taken))
+    rw (
+      sym (r .before .records-in .ensures),
+      sym (r .records-ok .ensures),
+      sym (a .before .unless .ensures),
+      sym (a .aim-ok .ensures),
+      sym (g .before .unless2 .ensures),
+      sym (g .lower .ensures),
+      sym (n .before .before .lights-number .ensures),
+      sym (n .before .lower2 .ensures),
+      sym (n .lower3 .ensures),
+      eq-eqb _ 0 (t .if1 .taken),
+    )
     (rw (c .emitted-reply .ensures, c .before .emitter-in .ensures))
 
 returns-2 : tie.Need-returns-2
@@ -30,11 +37,18 @@ returns-2 c =
     let g = n .before .before .before in
     let a = g .before .before in
     let r = a .before .before in
-    rw
-    (sym (r .before .records-in .ensures), sym (r .records-ok .ensures), sym (a .before .unless .ensures),
-     sym (a .aim-ok .ensures), sym (g .before .unless2 .ensures), sym (g .lower .ensures),
-     sym (n .before .before .lights-number .ensures), sym (n .before .lower2 .ensures), sym (n .lower3 .ensures),
-     ne-eqb _ 0 (t .if1 .left))
+    rw (
+      sym (r .before .records-in .ensures),
+      sym (r .records-ok .ensures),
+      sym (a .before .unless .ensures),
+      sym (a .aim-ok .ensures),
+      sym (g .before .unless2 .ensures),
+      sym (g .lower .ensures),
+      sym (n .before .before .lights-number .ensures),
+      sym (n .before .lower2 .ensures),
+      sym (n .lower3 .ensures),
+      ne-eqb _ 0 (t .if1 .left),
+    )
     (c .refused .ensures)
 
 pub emitter-hit-spec : {M : Type 1} → statement M

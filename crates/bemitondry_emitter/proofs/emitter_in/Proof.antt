@@ -5,7 +5,7 @@ use mathlib.Core.Path.{_≡_, sym}
 use native.Mathlib.Nat.{zero-add}
 use native.Mathlib.Omega.{arith}
 use Rattle.words.specs.Lists.{listFrom}
-use Rattle.shade.specs.Emitter.{emitterOf}
+use Rattle.emitter.specs.Emitter.{emitterOf}
 use Rattle.bemitondry_emitter.specs.Emitter.{lentLight}
 use Rattle.bemitondry_emitter.proofs.Records.{emitter-none, emitter-more}
 use Rattle.bemitondry_emitter.proofs.emitter_in.Statement.{statement}

@@ -8,8 +8,13 @@ returns : tie.Need-returns
 unfolding lentLight
 returns c =
     let v = c .before .before in
-    rw (v .before .before .vec-in .ensures, v .before .vec-in2 .ensures, v .vec-in3 .ensures, c .before .vec-in4 .ensures,
-    c .vec-in5 .ensures)
+    rw (
+      v .before .before .vec-in .ensures,
+      v .before .vec-in2 .ensures,
+      v .vec-in3 .ensures,
+      c .before .vec-in4 .ensures,
+      c .vec-in5 .ensures,
+    )
 
 pub light-in-spec : {M : Type 1} → statement M
 light-in-spec =

@@ -16,11 +16,20 @@ returns c =
     let s = u .before .before .before in
     let a = s .before .before .before in
     let v = a .before .before in
-    rw
-    (sym (v .before .vec-at .ensures), sym (v .vec-at2 .ensures), sym (a .before .vec-at3 .ensures),
-     sym (a .vec-at4 .ensures), sym (s .site-ok .ensures), sym (u .before .before .within .ensures),
-     sym (u .before .both .ensures), sym (u .unless .ensures), sym (k .before .before .material-number .ensures),
-     sym (k .before .lower .ensures), sym (k .lit-ask .ensures), eq-eqb _ 0 (t .if1 .taken))
+    rw (
+      sym (v .before .vec-at .ensures),
+      sym (v .vec-at2 .ensures),
+      sym (a .before .vec-at3 .ensures),
+      sym (a .vec-at4 .ensures),
+      sym (s .site-ok .ensures),
+      sym (u .before .before .within .ensures),
+      sym (u .before .both .ensures),
+      sym (u .unless .ensures),
+      sym (k .before .before .material-number .ensures),
+      sym (k .before .lower .ensures),
+      sym (k .lit-ask .ensures),
+      eq-eqb _ 0 (t .if1 .taken),
+    )
     (rw (c .lit-reply .ensures, c .before .direct .ensures))
 
 returns-2 : tie.Need-returns-2
@@ -32,11 +41,20 @@ returns-2 c =
     let s = u .before .before .before in
     let a = s .before .before .before in
     let v = a .before .before in
-    rw
-    (sym (v .before .vec-at .ensures), sym (v .vec-at2 .ensures), sym (a .before .vec-at3 .ensures),
-     sym (a .vec-at4 .ensures), sym (s .site-ok .ensures), sym (u .before .before .within .ensures),
-     sym (u .before .both .ensures), sym (u .unless .ensures), sym (k .before .before .material-number .ensures),
-     sym (k .before .lower .ensures), sym (k .lit-ask .ensures), ne-eqb _ 0 (t .if1 .left))
+    rw (
+      sym (v .before .vec-at .ensures),
+      sym (v .vec-at2 .ensures),
+      sym (a .before .vec-at3 .ensures),
+      sym (a .vec-at4 .ensures),
+      sym (s .site-ok .ensures),
+      sym (u .before .before .within .ensures),
+      sym (u .before .both .ensures),
+      sym (u .unless .ensures),
+      sym (k .before .before .material-number .ensures),
+      sym (k .before .lower .ensures),
+      sym (k .lit-ask .ensures),
+      ne-eqb _ 0 (t .if1 .left),
+    )
     (c .refused .ensures)
 
 pub direct-spec : {M : Type 1} → statement M

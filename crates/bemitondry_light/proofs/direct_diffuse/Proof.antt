@@ -15,10 +15,17 @@ returns c =
     let u = k .before in
     let s = u .before .before .before in
     let v = s .before .before in
-    rw
-    (sym (v .before .vec-at .ensures), sym (v .vec-at2 .ensures), sym (s .before .vec-at3 .ensures),
-     sym (s .site-ok .ensures), sym (u .before .before .within-up-to .ensures), sym (u .before .both .ensures),
-     sym (u .unless .ensures), sym (k .lit-ask .ensures), eq-eqb _ 0 (t .if1 .taken))
+    rw (
+      sym (v .before .vec-at .ensures),
+      sym (v .vec-at2 .ensures),
+      sym (s .before .vec-at3 .ensures),
+      sym (s .site-ok .ensures),
+      sym (u .before .before .within-up-to .ensures),
+      sym (u .before .both .ensures),
+      sym (u .unless .ensures),
+      sym (k .lit-ask .ensures),
+      eq-eqb _ 0 (t .if1 .taken),
+    )
     (rw (c .lit-reply .ensures, c .before .direct-diffuse .ensures))
 
 returns-2 : tie.Need-returns-2
@@ -29,10 +36,17 @@ returns-2 c =
     let u = k .before in
     let s = u .before .before .before in
     let v = s .before .before in
-    rw
-    (sym (v .before .vec-at .ensures), sym (v .vec-at2 .ensures), sym (s .before .vec-at3 .ensures),
-     sym (s .site-ok .ensures), sym (u .before .before .within-up-to .ensures), sym (u .before .both .ensures),
-     sym (u .unless .ensures), sym (k .lit-ask .ensures), ne-eqb _ 0 (t .if1 .left))
+    rw (
+      sym (v .before .vec-at .ensures),
+      sym (v .vec-at2 .ensures),
+      sym (s .before .vec-at3 .ensures),
+      sym (s .site-ok .ensures),
+      sym (u .before .before .within-up-to .ensures),
+      sym (u .before .both .ensures),
+      sym (u .unless .ensures),
+      sym (k .lit-ask .ensures),
+      ne-eqb _ 0 (t .if1 .left),
+    )
     (c .refused .ensures)
 
 pub direct-diffuse-spec : {M : Type 1} → statement M

@@ -8,7 +8,7 @@ use Rattle.words.specs.Lists.{listFrom}
 use Rattle.refusals.specs.Refusals.{lowestOf}
 use Rattle.refusals.proofs.Lowest.{lowest-start, lowest-more}
 use Rattle.plan.specs.Records.{lightIn}
-use Rattle.shade.specs.Panels.{atLightNumber, panelsNumber}
+use Rattle.panel.specs.Panels.{atLightNumber, panelsNumber}
 use Rattle.shade.proofs.Lights.{lights-taken}
 use Rattle.shade.proofs.panels_number.Statement.{statement}
 use Rattle.shade.proofs.panels_number.Tie as tie

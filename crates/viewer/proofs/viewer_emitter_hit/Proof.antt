@@ -13,8 +13,14 @@ returns c =
     let v = r .before .before in
     let l = v .before .before in
     sent-as
-    (rw (r .emitter-hit .ensures, r .before .float-at .ensures, v .vec-at2 .ensures, v .before .vec-at .ensures,
-     l .lent .ensures, l .before .args-before .ensures))
+    (rw (
+      r .emitter-hit .ensures,
+      r .before .float-at .ensures,
+      v .vec-at2 .ensures,
+      v .before .vec-at .ensures,
+      l .lent .ensures,
+      l .before .args-before .ensures,
+    ))
     (s .send .ensures)
 
 pub viewer-emitter-hit-spec : {M : Type 1} → statement M

@@ -13,8 +13,15 @@ returns c =
     let v = r .before .before in
     let l = v .before .before .before in
     sent-as
-    (rw (r .form-factor .ensures, r .before .vec-at4 .ensures, v .vec-at3 .ensures, v .before .vec-at2 .ensures,
-     v .before .before .vec-at .ensures, l .lent .ensures, l .before .args-before .ensures))
+    (rw (
+      r .form-factor .ensures,
+      r .before .vec-at4 .ensures,
+      v .vec-at3 .ensures,
+      v .before .vec-at2 .ensures,
+      v .before .before .vec-at .ensures,
+      l .lent .ensures,
+      l .before .args-before .ensures,
+    ))
     (s .send .ensures)
 
 pub viewer-form-factor-spec : {M : Type 1} → statement M

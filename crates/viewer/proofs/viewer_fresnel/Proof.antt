@@ -12,8 +12,13 @@ returns c =
     let r = s .before .before in
     let l = r .before .before .before in
     sent-as
-    (rw (r .fresnel .ensures, r .before .vec-at .ensures, r .before .before .float-at .ensures, l .lent .ensures,
-     l .before .args-before .ensures))
+    (rw (
+      r .fresnel .ensures,
+      r .before .vec-at .ensures,
+      r .before .before .float-at .ensures,
+      l .lent .ensures,
+      l .before .args-before .ensures,
+    ))
     (s .send .ensures)
 
 pub viewer-fresnel-spec : {M : Type 1} → statement M
