@@ -10,9 +10,9 @@ ghost use Rattle.wire.specs.Lent.{givenVec};
 ghost use Rattle.emitter.specs.Emitter.{emitterOf};
 ghost use Rattle.bemitondry_emitter.specs.Emitter.{recordsOk, recordsIn, lentLight, aimOk, emittedReply};
 ghost use Rattle.bemitondry_emitter.specs.Emitter.{emitterReply};
+use emitter::Emitted;
 use plan::QuadLight;
 use reply::Reply;
-use shade::Emitted;
 use vec::Vec3;
 
 // Whether so many bytes are whole records, and no more than a plan may have.
