@@ -26,7 +26,7 @@ use Rattle.trace.specs.declared.Traced.{Traced}
 use Rattle.trace.specs.declared.Traced.the-variants.{Met, Missed}
 use Rattle.trace.specs.declared.Shadow.{Shadow}
 use Rattle.trace.specs.Trace.{epsOf, pointAt, steppedOf, follow, march, traceOf}
-use Rattle.trace.specs.Shadow.{seenOf, cone, shadowOf}
+use Rattle.trace.specs.Shadow.{seenOf, coneMarch, shadowOf}
 
 -- what a row works out, and what it should be
 pub data Answer : Type 0 where
@@ -131,6 +131,6 @@ unfolding whole ofInt ofBits neg add sub mul div lt eq rootOf fmin fmax clampOf 
     sphere roundBox plane capsule torus beyond cylinderSquare cylinderBody cylinder
     coneEnd coneFoot coneSign coneAt coneBody cone distOf
     cutBy carve pieceDist hitOf closer piecesFrom nearest listHit planOf hitBy fieldBy listFrom
-    epsOf pointAt steppedOf follow march traceOf seenOf cone shadowOf
+    epsOf pointAt steppedOf follow march traceOf seenOf coneMarch shadowOf
 rows-hold =
     (refl, (refl, (refl, (refl, (refl, (refl, (refl, (refl, (refl, (refl, (refl, (refl, (refl, (refl, tt))))))))))))))

@@ -11,7 +11,7 @@ use Rattle.wire.specs.Sent.{Sent}
 use Rattle.viewer.specs.Entries.{EntrySent, ObjectOn}
 use Rattle.viewer.specs.Trees.{BuildOn, OfferOn}
 
--- a call that asks: its reply is rootReply, acosReply, primDistReply, primBoundsReply, queryReply or distMatReply
+-- a call that leaves only an answer: its promise is one equation, of its reply
 pub only : {A : Type 0} {is r s : A} → r ≡ is → s ≡ is → r ≡ s
 only p q = p ∙ sym q
 

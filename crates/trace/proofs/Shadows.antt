@@ -23,7 +23,7 @@ use Rattle.trace.specs.declared.Passed.{Passed}
 use Rattle.trace.specs.declared.Passed.the-variants.{Dark, Going}
 use Rattle.trace.specs.declared.Shadow.{Shadow}
 use Rattle.trace.specs.Trace.{Field, pointAt}
-use Rattle.trace.specs.Shadow.{shadowMost, darkerOf, passedOf, seenOf, pass, passAt, cone, coneFrom, shadowOf}
+use Rattle.trace.specs.Shadow.{shadowMost, darkerOf, passedOf, seenOf, pass, passAt, coneMarch, coneFrom, shadowOf}
 use Rattle.trace.specs.Seen.{conePoints, shadowPoints}
 use Rattle.trace.proofs.Marches.{never}
 
@@ -77,7 +77,7 @@ module _ (field : Field) (ro rd : Vec3) (tmax k : Float) where
   -- what a march comes to after an evaluation, and the points that follow: by its outcome
   abbrev after : ℕ → ℕ → Passed → Shadow
   after left made =
-      pass (record { vis = f0; count = made }) (λ (next : Cone). cone field ro rd tmax k left next made)
+      pass (record { vis = f0; count = made }) (λ (next : Cone). coneMarch field ro rd tmax k left next made)
 
   abbrev onward : ℕ → Passed → List Vec3
   onward left = pass [] (λ (next : Cone). conePoints field ro rd tmax k left next)
@@ -87,11 +87,11 @@ module _ (field : Field) (ro rd : Vec3) (tmax k : Float) where
       : (c : Cone) (steps : ℕ) (whole : Shadow)
       → steps < 96
       → lt (c .t) tmax ≡ true
-      → cone field ro rd tmax k (96 - steps) c steps ≡ whole
+      → coneMarch field ro rd tmax k (96 - steps) c steps ≡ whole
       → (s : Passed)
       → s ≡ at c
       → after (96 - (steps + 1)) (steps + 1) s ≡ whole
-  unfolding cone
+  unfolding coneMarch
   cone-turn c steps whole h b e s q =
       let l : 96 - steps ≡ suc (96 - (steps + 1)) = omega arith in
       rw (q, add-one) (rw (l, b, add-one) at e)
@@ -99,18 +99,18 @@ module _ (field : Field) (ro rd : Vec3) (tmax k : Float) where
   pub cone-past
       : (left : ℕ) (c : Cone) (made : ℕ) (whole : Shadow)
       → lt (c .t) tmax ≡ false
-      → cone field ro rd tmax k left c made ≡ whole
+      → coneMarch field ro rd tmax k left c made ≡ whole
       → seenOf (c .res) made ≡ whole
-  unfolding cone
+  unfolding coneMarch
   cone-past zero c made whole b e = e
   cone-past (suc left) c made whole b e = rw b at e
 
   pub cone-spent
       : (c : Cone) (steps : ℕ) (whole : Shadow)
       → 96 ≤ steps
-      → cone field ro rd tmax k (96 - steps) c steps ≡ whole
+      → coneMarch field ro rd tmax k (96 - steps) c steps ≡ whole
       → seenOf (c .res) steps ≡ whole
-  unfolding cone
+  unfolding coneMarch
   cone-spent c steps whole h e = let l : 96 - steps ≡ 0 = omega arith in rw l at e
 
   -- ---- what holds of every march and its points
@@ -128,8 +128,8 @@ module _ (field : Field) (ro rd : Vec3) (tmax k : Float) where
       → P left next (suc made) x ps
       → P (suc left) c made x (pointAt ro rd (c .t) ∷ ps))
       → (left : ℕ) (c : Cone) (made : ℕ)
-      → P left c made (cone field ro rd tmax k left c made) (conePoints field ro rd tmax k left c)
-  unfolding cone conePoints pass
+      → P left c made (coneMarch field ro rd tmax k left c made) (conePoints field ro rd tmax k left c)
+  unfolding coneMarch conePoints pass
   cone-each P spent past dark on zero c made = spent c made
   cone-each P spent past dark on (suc left) c made =
       elim (lt (c .t) tmax) as
@@ -192,10 +192,10 @@ pub shadow-agrees
     : (f g : Field) (ro rd : Vec3) (tmin tmax k : Float)
     → All (λ (p : Vec3). f p ≡ g p) (shadowPoints f ro rd tmin tmax k)
     → shadowOf f ro rd tmin tmax k ≡ shadowOf g ro rd tmin tmax k
-unfolding shadowOf shadowPoints cone pass
+unfolding shadowOf shadowPoints coneMarch pass
 shadow-agrees f g ro rd tmin tmax k =
     cone-each f ro rd tmax k
-    (λ left c made x ps. All (λ (p : Vec3). f p ≡ g p) ps → x ≡ cone g ro rd tmax k left c made)
+    (λ left c made x ps. All (λ (p : Vec3). f p ≡ g p) ps → x ≡ coneMarch g ro rd tmax k left c made)
     (λ _ _ _. refl)
     (λ _ _ _ b _. rw b)
     (λ _ _ _ b e a. rw (b, sym (a .0), e))

@@ -6,7 +6,7 @@ use mathlib.Core.Path.{_≡_, refl, _∙_}
 use native.Mathlib.Omega.{arith}
 use Rattle.bvh_search.specs.Field.{fieldBy}
 use Rattle.trace.specs.declared.Passed.the-variants.{Dark, Going}
-use Rattle.trace.specs.Shadow.{pass, cone, shadowOf}
+use Rattle.trace.specs.Shadow.{pass, coneMarch, shadowOf}
 use Rattle.trace.proofs.Shadows.{cone-turn, cone-past, cone-spent}
 use Rattle.trace.proofs.soft_shadow.Statement.{statement}
 use Rattle.trace.proofs.soft_shadow.Tie as tie
@@ -14,7 +14,7 @@ use Rattle.trace.proofs.soft_shadow.Tie as tie
 abbrev Inv-loop : tie.InvT-loop
 Inv-loop tree ws fs ro rd tmin tmax k c₀ steps₀ c steps =
     (steps ≤ 96)
-    × (cone (fieldBy tree ws fs) ro rd tmax k (96 - steps) c steps ≡ shadowOf (fieldBy tree ws fs) ro rd tmin tmax k)
+    × (coneMarch (fieldBy tree ws fs) ro rd tmax k (96 - steps) c steps ≡ shadowOf (fieldBy tree ws fs) ro rd tmin tmax k)
 
 abbrev μ-loop : tie.MeasureT-loop
 μ-loop tree ws fs ro rd tmin tmax k c₀ steps₀ c steps = 96 - steps
