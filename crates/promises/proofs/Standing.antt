@@ -7,6 +7,7 @@ use mathlib.Core.Bool.{Bool, true, false, cond, _&&_, and-eq-true-iff}
 use mathlib.Core.List.{List, [], _∷_}
 use lib.ListN.{length}
 use lib.Dec.{T, eqb·suc-zero}
+use lib.Seq.{take-all}
 use lib.Ieee.{Float, ofBits, neg, lt, le, eq}
 use denote.Floats.{passes}
 use Rattle.scalar.specs.Ranges.{between, magnitude}
@@ -168,6 +169,10 @@ module _ (before : ℕ) (w : List ℕ) (f : List Float) (long : length w ≡ tab
       let c = lower-zero before (lower given number) .0 (b .0) in
       let d = lower-zero given number .0 (c .1) in
       field-stands (lit-exact (planOf w f) .0 (d .1) .solids .counts .objects) (b .1)
+
+-- the lights that such a call goes through are all of the plan's
+pub panels-all : (w : List ℕ) (f : List Float) → litNumber (planOf w f) ≡ 0 → panels w f ≡ planOf w f .lights
+panels-all w f e = take-all 16 (planOf w f .lights) (lit-exact (planOf w f) .0 e .solids .counts .lights)
 
 -- a reply whose number is 0 was not refused, and is the answer
 pub not-refused : (n : ℕ) (r : Reply) → replyOf n r .number ≡ 0 → (n ≡ 0) × (replyOf n r ≡ r)
