@@ -28,7 +28,8 @@ compare tree [PART]   trees built, offered and searched, at length
 compare light [PART]  marches and light in furnished rooms, at length
 compare stack         bytes of stack that each call uses
 compare bench         times, ours beside the Rust's
-compare store FILE    writes the answers that are replayed without Rust";
+compare store FILE    writes the answers that are replayed without Rust
+compare store light FILE  those of form factors and surfaces";
 
 fn main() -> ExitCode {
     let args: Vec<String> = env::args().skip(1).collect();
@@ -48,6 +49,7 @@ fn main() -> ExitCode {
         }
         ["bench"] => bench::run(),
         ["store", file] => scalar::store::run(file),
+        ["store", "light", file] => scalar::store::run_light(file),
         _ => Err(format!("usage:\n{USAGE}")),
     };
     match result {

@@ -28,7 +28,10 @@ fn the_source_faults_on_a_sixth_corner() {
 fn the_clip_ends_with_five() {
     let before = met();
     let mut out = [Vec3::ZERO; 5];
-    let n = interflect_formula::ltc::clip_to_horizon(&corners([[0.0, 0.0, -1.0], [1.0; 3], [0.0, 0.0, -1.0], [3.0; 3]]), &mut out);
+    let n = interflect_formula::ltc::clip_to_horizon(
+        &corners([[0.0, 0.0, -1.0], [1.0; 3], [0.0, 0.0, -1.0], [3.0; 3]]),
+        &mut out,
+    );
     assert_eq!(n, 5);
     assert_eq!(out[4], Vec3::splat(3.0));
     assert_eq!(met().sixth, before.sixth + 1);
@@ -39,8 +42,7 @@ fn the_clip_ends_with_five() {
 fn above_first_is_no_difference() {
     let before = met();
     let skew = turned([[1.0, 0.0, -1.0], [0.0, 1.0, 1.0], [-1.0, 0.0, -1.0], [0.0, -1.0, 1.0]]);
-    let (plain, formula) =
-        (interflect::ltc::quad_form_factor(&skew), interflect_formula::ltc::quad_form_factor(&skew));
+    let (plain, formula) = (interflect::ltc::quad_form_factor(&skew), interflect_formula::ltc::quad_form_factor(&skew));
     assert!((plain - formula).abs() <= 0.000004);
     assert_eq!(met(), before);
 }

@@ -69,8 +69,13 @@ fn no_distance() -> Result<(), String> {
     }
     let before = met();
     let scene = formula::scene(&scene(&plan));
-    let (ours, same_count) =
-        interflect_formula::shade::direct(&scene, point, Vec3::Y, Vec3::Y, &interflect_formula::scene::Material::default());
+    let (ours, same_count) = interflect_formula::shade::direct(
+        &scene,
+        point,
+        Vec3::Y,
+        Vec3::Y,
+        &interflect_formula::scene::Material::default(),
+    );
     let only_diffuse = interflect_formula::shade::direct_diffuse(&scene, point, Vec3::Y, Vec3::splat(0.8)).0;
     let close = (ours.x - only_diffuse.x).abs() <= 1e-5 * only_diffuse.x;
     if met().no_way != before.no_way + 1 || count != same_count || !close || ours.x <= 0.0 {

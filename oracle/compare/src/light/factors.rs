@@ -28,7 +28,8 @@ pub fn run(panels: usize) -> Result<String, String> {
         words::put(&mut args, &words::bits(&corners));
         assert_eq!(check(Call::FormFactor, &args, &mut out)?, DONE, "corners are drawn sound");
         seen += usize::from(words::word(&out, 0) != 0);
-        let corners: [Vec3; 4] = std::array::from_fn(|i| Vec3::new(corners[3 * i], corners[3 * i + 1], corners[3 * i + 2]));
+        let corners: [Vec3; 4] =
+            std::array::from_fn(|i| Vec3::new(corners[3 * i], corners[3 * i + 1], corners[3 * i + 2]));
         clipped[clip_to_horizon(&corners, &mut [Vec3::ZERO; 5])] += 1;
         if i % CHUNK == 0 && i > 0 {
             progress.add(CHUNK);

@@ -58,6 +58,7 @@ fn light(of: &QuadLight) -> scene::QuadLight {
 }
 
 fn tree(of: &Bvh) -> bvh::Bvh {
-    let node = |n: &interflect::bvh::Node| bvh::Node { lo: n.lo, hi: n.hi, start: n.start, count: n.count, right: n.right };
+    let node =
+        |n: &interflect::bvh::Node| bvh::Node { lo: n.lo, hi: n.hi, start: n.start, count: n.count, right: n.right };
     bvh::Bvh { nodes: of.nodes.iter().map(node).collect(), order: of.order.clone(), empty: of.empty }
 }

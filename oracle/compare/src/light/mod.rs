@@ -14,6 +14,8 @@ mod places;
 mod room;
 mod rooms;
 mod surfaces;
+#[cfg(test)]
+mod tests;
 mod turns;
 
 use crate::gate::Part;
@@ -26,7 +28,7 @@ pub const GATE: [Part; 7] = [
     ("light factors", || factors::run(1_000_000)),
     ("light surfaces", || surfaces::run(300_000)),
     ("light emitters", || emitter::run(100_000)),
-    ("light rooms", || rooms::run(40, 20)),
+    ("light rooms", || rooms::run(60, 20)),
 ];
 
 /// The same at length.
@@ -37,5 +39,5 @@ pub const LONG: [Part; 7] = [
     ("factors", || factors::run(50_000_000)),
     ("surfaces", || surfaces::run(10_000_000)),
     ("emitters", || emitter::run(5_000_000)),
-    ("rooms", || rooms::run(1_200, 100)),
+    ("rooms", || rooms::run(1_500, 100)),
 ];

@@ -155,11 +155,12 @@ fn panel(rng: &mut Rng, size: &Size) -> Light {
     let mut about = |half: f32| half * (rng.unit() * 1.8 - 0.9);
     let (x, z, y) = (about(w), about(d), size.height - 0.05);
     let side = rng.pick(&[0.01, 0.3, 0.6, 1.2, 1.2, 3.0]);
-    let mut corners = match rng.below(5) {
-        // On a wall, looking in.
+    let mut corners = match rng.below(6) {
+        // On a wall, looking in; and in a partition, where x is 0 and what is just beside it can be told.
         0 => rectangle([-w + 0.02, 0.5 * y, z], [0.0, side, 0.0], [0.0, 0.0, side]),
+        1 => rectangle([0.0, 0.5 * y, z], [0.0, side, 0.0], [0.0, 0.0, side]),
         // Beneath a desk's height, looking any way.
-        1 => rectangle([x, 0.6, z], [side, 0.2 * rng.unit(), 0.0], [0.0, side * rng.unit() - 0.3, side]),
+        2 => rectangle([x, 0.6, z], [side, 0.2 * rng.unit(), 0.0], [0.0, side * rng.unit() - 0.3, side]),
         _ => rectangle([x, y, z], [side, 0.0, 0.0], [0.0, 0.0, side]),
     };
     match rng.below(6) {

@@ -13,7 +13,8 @@ use crate::plan::points::Asking;
 use crate::progress::through;
 use crate::rng::Rng;
 use crate::scalar::check::check as check_scalar;
-use crate::tree::judged;
+use crate::tree::make::{self, Form, Slack};
+use crate::tree::{judged, source};
 use crate::words;
 use interflect::ltc::{frame, to_local};
 use interflect_formula::differences::{met, Met};
@@ -55,9 +56,9 @@ pub fn run(rooms: usize, points: usize) -> Result<String, String> {
          {factors} form factors, {emitters} panels hit; {sixth} sixth corners, {no_way} representative points \
          at no distance"
     );
-    let least = rooms * points / 400;
-    let few = [hits, spent, dark, half, lit, at_centre, emitters, sixth as usize, no_way as usize];
-    if few.iter().any(|&n| n < least) {
+    let many = rooms * points;
+    let few = [hits, spent, dark, half, lit, at_centre, emitters].iter().any(|&n| n < many / 100);
+    if few || sixth.min(no_way) < many as u64 / 2_000 {
         return Err(format!("badly drawn: {line}"));
     }
     Ok(line)
@@ -71,6 +72,12 @@ fn of_room(rng: &mut Rng, plan: &Plan, shift: usize, points: usize, tally: &mut 
         _ => &[0, 1],
     };
     if trees.len() == 2 {
+        if rng.one_in(3) {
+            // Another tree than what is built.
+            let boxes = source::boxes(&asking.scene.objects);
+            let (leaf, most) = (1 + rng.below(8), rng.unit());
+            asking.lent.stand(&make::tree(rng, &boxes, Form::Random(leaf), Slack::Some(most)));
+        }
         asking.scene.bvh = judged::for_the_source(&asking.lent, &asking.scene.objects);
     }
     for _ in 0..points {

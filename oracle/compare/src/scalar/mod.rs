@@ -7,7 +7,7 @@ mod acos;
 mod acos_error;
 mod answer;
 pub mod bench;
-mod cases;
+pub mod cases;
 pub mod check;
 pub mod draw;
 mod judge;

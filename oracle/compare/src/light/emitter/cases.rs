@@ -39,8 +39,8 @@ pub fn run() -> Result<usize, String> {
         (&[down(2.0, 5.0)], up(1.0, 0.0, 10.0), Some((2.0, 5.0))),
         (&[down(2.0, 5.0)], up(-1.0, -1.0, 10.0), Some((2.0, 5.0))),
         (&[down(2.0, 5.0)], up(1.0, 1.0, 10.0), Some((2.0, 5.0))),
-        (&[down(2.0, 5.0)], up(1f32.next_up(), 0.0, 10.0), None),
-        (&[down(2.0, 5.0)], up(0.0, -1f32.next_up(), 10.0), None),
+        (&[down(2.0, 5.0)], up(1.001, 0.0, 10.0), None),
+        (&[down(2.0, 5.0)], up(0.0, -1.001, 10.0), None),
         // The nearest, wherever it stands; of equally near ones the first.
         (&[down(3.0, 1.0), down(2.0, 5.0), down(4.0, 2.0)], up(0.5, 0.5, 10.0), Some((2.0, 5.0))),
         (&[down(2.0, 1.0), down(2.0, 5.0)], up(0.5, 0.5, 10.0), Some((2.0, 1.0))),

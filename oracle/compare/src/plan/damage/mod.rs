@@ -4,10 +4,10 @@
 mod strike;
 
 use super::check::check;
+use super::judge::centre;
 use super::layout::*;
 use super::lent::Lent;
 use super::model::{cutters_of, used, Plan};
-use super::judge::centre;
 use super::{draw, questions, sound};
 use crate::call::Call;
 use crate::chosen::NAN;
