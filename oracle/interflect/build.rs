@@ -1,6 +1,7 @@
 //! Copies the six source files to OUT_DIR, where lib.rs includes them. Only these things change:
 //! leading `//!` lines go (an included file can't have them), what is private becomes visible,
-//! and in the package `interflect_formula` `acos` becomes document 01's formula.
+//! and in the package `interflect_formula` `acos` becomes document 01's formula, and its two
+//! differences are put in.
 
 use std::env;
 use std::fs;
@@ -23,8 +24,8 @@ fn main() {
             panic!("can't read {from}: {e} (INTERFLECT_SRC can name the source's folder)")
         });
         let mut text = visible(&without_heading(&text));
-        if formula && file == "ltc" {
-            text = with_formula(&text);
+        if formula {
+            text = with_formula(file, text);
         }
         fs::write(out.join(file).with_extension("rs"), text).unwrap();
     }
@@ -67,9 +68,28 @@ fn visible(text: &str) -> String {
     out
 }
 
-fn with_formula(text: &str) -> String {
-    let call = "cos_t.acos()";
-    assert_eq!(text.matches(".acos()").count(), 1, "ltc.rs has one arc cosine");
-    assert!(text.contains(call), "ltc.rs takes the arc cosine of cos_t");
-    text.replace(call, "crate::acos::formula(cos_t)")
+/// Document 01's arc cosine and differences, each in the one place that it has.
+fn with_formula(file: &str, text: String) -> String {
+    let places: &[(&str, &str)] = match file {
+        "ltc" => &[
+            ("cos_t.acos()", "crate::acos::formula(cos_t)"),
+            (
+                "if (da >= 0.0) != (db >= 0.0) {",
+                "if (da >= 0.0) != (db >= 0.0) && crate::differences::room(n, out.len()) {",
+            ),
+        ],
+        "shade" => &[(
+            "let l = (rep - p).normalize();",
+            "if crate::differences::no_way((rep - p).length()) {
+            continue;
+        }
+        let l = (rep - p).normalize();",
+        )],
+        _ => &[],
+    };
+    assert_eq!(text.matches(".acos()").count(), usize::from(file == "ltc"), "{file}.rs: arc cosines");
+    places.iter().fold(text, |text, (theirs, ours)| {
+        assert_eq!(text.matches(theirs).count(), 1, "{file}.rs has `{theirs}` once");
+        text.replace(theirs, ours)
+    })
 }

@@ -1,7 +1,7 @@
 //! Times, ours beside the Rust's in one run. Ours are those of the exported calls, so they have
 //! the reading, testing and writing of bytes in them.
 
-use crate::{plan, scalar, tree};
+use crate::{light, plan, scalar, tree};
 use std::hint::black_box;
 use std::time::Instant;
 
@@ -13,18 +13,25 @@ pub fn run() -> Result<(), String> {
     scalar::bench::run();
     plan::bench::run();
     tree::bench::run();
+    light::bench::run();
     Ok(())
 }
 
 /// Times both on the same inputs and prints a line of the table.
-pub fn pair<I, A, B>(
+pub fn pair<I, A, B>(name: &str, inputs: &[I], ours: impl FnMut(&I) -> A, theirs: impl FnMut(&I) -> B) -> (f64, f64) {
+    pair_in(TURNS, name, inputs, ours, theirs)
+}
+
+/// The same in so many turns, for loops that take long.
+pub fn pair_in<I, A, B>(
+    turns: usize,
     name: &str,
     inputs: &[I],
     mut ours: impl FnMut(&I) -> A,
     mut theirs: impl FnMut(&I) -> B,
 ) -> (f64, f64) {
     let (mut least_ours, mut least_theirs) = (f64::MAX, f64::MAX);
-    for _ in 0..TURNS {
+    for _ in 0..turns {
         least_ours = least_ours.min(nanoseconds(inputs, &mut ours));
         least_theirs = least_theirs.min(nanoseconds(inputs, &mut theirs));
     }

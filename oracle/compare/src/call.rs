@@ -51,6 +51,10 @@ calls! {
         Acos = viewer_acos: args 1, out 1;
         PrimDist = viewer_prim_dist: args 12, out 1;
         PrimBounds = viewer_prim_bounds: args 9, out 6;
+        FormFactor = viewer_form_factor: args 12, out 1;
+        Fresnel = viewer_fresnel: args 4, out 3;
+        F0 = viewer_f0: args MATERIAL_WORDS, out 3;
+        DiffuseAlbedo = viewer_diffuse_albedo: args MATERIAL_WORDS, out 3;
     }
     /// Each adds to a list of the plan.
     ENTRIES {
@@ -68,6 +72,14 @@ calls! {
     ASKS {
         Query = viewer_query: args 5, out 4, tests Objects;
         DistMat = viewer_dist_mat: args 3, out 2, tests Planes Objects;
+        Trace = viewer_trace: args 8, out 7, tests Planes Objects;
+        SoftShadow = viewer_soft_shadow: args 9, out 2, tests Planes Objects;
+        Direct = viewer_direct: args 14, out 4, tests Planes Objects Lights;
+        DirectDiffuse = viewer_direct_diffuse: args 9, out 4, tests Planes Objects Lights;
+    }
+    /// Lent light records, `args` and `out`.
+    RECORDS {
+        EmitterHit = viewer_emitter_hit: args 7, out 5;
     }
 }
 
@@ -101,9 +113,18 @@ impl Call {
         self.row().enters
     }
 
-    /// The pieces of the plan that are tested, each with its cutters.
+    /// The lists of the plan that are tested, pieces with their cutters.
     pub fn tests(self) -> &'static [List] {
         self.row().tests
+    }
+
+    /// Those of them that hold pieces.
+    pub fn tested_pieces(self) -> impl Iterator<Item = List> {
+        self.tests().iter().copied().filter(|&list| list != List::Lights)
+    }
+
+    pub fn tests_lights(self) -> bool {
+        self.tests().contains(&List::Lights)
     }
 
     pub fn asks(self) -> bool {

@@ -1,14 +1,14 @@
 //! The comparisons that run with every change: seconds, not minutes.
 
 use crate::progress::through;
-use crate::{plan, scalar, tree};
+use crate::{light, plan, scalar, tree};
 use std::time::Instant;
 
 /// A comparison: a line that says what was compared, or the first difference.
 pub type Part = (&'static str, fn() -> Result<String, String>);
 
 pub fn run() -> Result<(), String> {
-    run_parts("gate", &[&scalar::GATE[..], &plan::GATE, &tree::GATE].concat())
+    run_parts("gate", &[&scalar::GATE[..], &plan::GATE, &tree::GATE, &light::GATE].concat())
 }
 
 /// One of the parts.

@@ -10,6 +10,7 @@ pub const WRONG_KIND: u32 = 5;
 pub const BAD_TREE: u32 = 6;
 pub const TOO_DEEP: u32 = 7;
 pub const NO_TREE: u32 = 8;
+pub const AT_CENTRE: u32 = 9;
 
 pub const KINDS: u32 = 7;
 pub const PLANE: u32 = 2;
@@ -41,6 +42,13 @@ pub const COORD: Range = magnitude(10_000.0);
 pub const RADIUS: Range = not_negative(10_000.0);
 pub const NORMAL: Range = magnitude(1.5);
 pub const POINT: Range = magnitude(200_000.0);
+/// Where a ray begins, and how far it goes.
+pub const ORIGIN: Range = magnitude(20_000.0);
+pub const ALONG: Range = not_negative(100_000.0);
+pub const SHARPNESS: Range = not_negative(1_000.0);
+pub const COSINE: Range = magnitude(10.0);
+/// Albedo, roughness, metallic, F0.
+pub const UNIT: Range = not_negative(1.0);
 
 /// The ranges of the words that a kind uses, in the source's order; none for an unknown kind.
 pub fn ranges(kind: u32) -> Option<&'static [Range]> {

@@ -6,6 +6,7 @@ mod chosen;
 mod draw;
 mod gate;
 mod judge;
+mod light;
 mod plan;
 mod progress;
 mod rng;
@@ -24,9 +25,11 @@ compare sweep root    every f32 from 0 to f32::MAX
 compare sweep acos    every f32 from -1 to 1
 compare plan [PART]   calls on plans, at length
 compare tree [PART]   trees built, offered and searched, at length
+compare light [PART]  marches and light in furnished rooms, at length
 compare stack         bytes of stack that each call uses
 compare bench         times, ours beside the Rust's
-compare store FILE    writes the answers that are replayed without Rust";
+compare store FILE    writes the answers that are replayed without Rust
+compare store light FILE  those of form factors and surfaces";
 
 fn main() -> ExitCode {
     let args: Vec<String> = env::args().skip(1).collect();
@@ -38,12 +41,15 @@ fn main() -> ExitCode {
         ["plan", part] => gate::run_one("plan", &plan::LONG, part),
         ["tree"] => gate::run_parts("tree", &tree::LONG),
         ["tree", part] => gate::run_one("tree", &tree::LONG, part),
+        ["light"] => gate::run_parts("light", &light::LONG),
+        ["light", part] => gate::run_one("light", &light::LONG, part),
         ["stack"] => {
             tree::stack::tell();
             Ok(())
         }
         ["bench"] => bench::run(),
         ["store", file] => scalar::store::run(file),
+        ["store", "light", file] => scalar::store::run_light(file),
         _ => Err(format!("usage:\n{USAGE}")),
     };
     match result {

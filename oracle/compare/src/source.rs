@@ -1,6 +1,7 @@
 //! The source's values of words.
 
 use glam::Vec3;
+use interflect::scene::{Material, QuadLight};
 use interflect::sdf::Prim;
 
 /// The primitive of a kind and its eight words.
@@ -19,7 +20,29 @@ pub fn prim(kind: u32, words: &[u32]) -> Prim {
     }
 }
 
+/// Four corners.
+pub fn corners(words: &[u32]) -> [Vec3; 4] {
+    std::array::from_fn(|i| vec3(&words[3 * i..]))
+}
+
+pub fn light(words: &[u32]) -> QuadLight {
+    QuadLight { verts: corners(words), emit: vec3(&words[12..]) }
+}
+
+/// Albedo, roughness, metallic. It shines with nothing of its own.
+pub fn material(words: &[u32]) -> Material {
+    let f = |i: usize| f32::from_bits(words[i]);
+    Material { albedo: vec3(words), roughness: f(3), metallic: f(4), emissive: Vec3::ZERO }
+}
+
 pub fn vec3(words: &[u32]) -> Vec3 {
     let f = |i: usize| f32::from_bits(words[i]);
     Vec3::new(f(0), f(1), f(2))
+}
+
+/// The words of a vector, from a place on.
+pub fn put_vec3(words: &mut [u32], v: Vec3) {
+    for (i, word) in words[..3].iter_mut().enumerate() {
+        *word = v[i].to_bits();
+    }
 }

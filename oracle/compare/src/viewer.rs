@@ -38,7 +38,20 @@ pub fn send(call: Call, args: &[u8], out: &mut [u8]) -> u32 {
             Root = viewer_root,
             Acos = viewer_acos,
             PrimDist = viewer_prim_dist,
-            PrimBounds = viewer_prim_bounds;
+            PrimBounds = viewer_prim_bounds,
+            FormFactor = viewer_form_factor,
+            Fresnel = viewer_fresnel,
+            F0 = viewer_f0,
+            DiffuseAlbedo = viewer_diffuse_albedo;
+    })
+}
+
+/// The calls that are lent light records too.
+#[inline]
+pub fn send_records(call: Call, lights: &[u8], args: &[u8], out: &mut [u8]) -> u32 {
+    make!(call {
+        (lent lights, lent args, mut out):
+            EmitterHit = viewer_emitter_hit;
     })
 }
 
@@ -66,6 +79,10 @@ pub fn lend(call: Call, lent: &mut Lent) -> u32 {
             Offer = viewer_offer;
         (lent plan, lent nodes, lent order, word tree, lent args, mut out):
             Query = viewer_query,
-            DistMat = viewer_dist_mat;
+            DistMat = viewer_dist_mat,
+            Trace = viewer_trace,
+            SoftShadow = viewer_soft_shadow,
+            Direct = viewer_direct,
+            DirectDiffuse = viewer_direct_diffuse;
     })
 }

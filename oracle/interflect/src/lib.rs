@@ -1,6 +1,7 @@
 //! The six source files, as build.rs left them. Shared with the package `interflect_formula`.
 
 pub mod acos;
+pub mod differences;
 
 macro_rules! source {
     ($($file:ident)*) => {
@@ -10,6 +11,10 @@ macro_rules! source {
                 include!(concat!(env!("OUT_DIR"), "/", stringify!($file), ".rs"));
             }
         )*
+
+        /// The text of each file, as it was compiled.
+        pub const TEXTS: &[(&str, &str)] =
+            &[$((stringify!($file), include_str!(concat!(env!("OUT_DIR"), "/", stringify!($file), ".rs")))),*];
     };
 }
 

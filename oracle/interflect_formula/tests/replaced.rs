@@ -1,4 +1,4 @@
-//! The two builds differ in the arc cosine and in nothing that is far from it.
+//! The two builds differ in the arc cosine, in document 01's differences, and in nothing else.
 
 use glam::Vec3;
 
@@ -17,4 +17,21 @@ fn form_factors_are_close_and_not_all_equal() {
         unequal += u32::from(plain != formula);
     }
     assert!(unequal > 0, "the formula was not put in");
+}
+
+#[test]
+fn nothing_else_is_replaced() {
+    for ((file, plain), (_, formula)) in interflect::TEXTS.iter().zip(interflect_formula::TEXTS) {
+        let lines = |text: &'static str| text.lines().collect::<Vec<_>>();
+        let (plain, formula) = (lines(plain), lines(formula));
+        let others = formula.iter().filter(|line| !plain.contains(line)).count();
+        let expected = match *file {
+            // The arc cosine; room for a corner.
+            "ltc" => (0, 2),
+            // Three lines before the direction to the representative point, two of which other loops have too.
+            "shade" => (3, 1),
+            _ => (0, 0),
+        };
+        assert_eq!((formula.len() - plain.len(), others), expected, "{file}.rs");
+    }
 }

@@ -58,11 +58,13 @@ fn compare(call: Call, lent: &mut Lent, scene: Option<&Scene>) -> Result<u32, St
     Ok(sent)
 }
 
-/// A distance is compared as a float, and so are the corners of a tree that was built: zeros of
+/// What is a float is compared as one, and so are the corners of a tree that was built: zeros of
 /// both signs are equal.
 fn as_floats(call: Call, lent: &mut Lent) {
     match call {
-        Call::Query | Call::DistMat => take_zeros(&mut lent.out, 0..1),
+        Call::Query | Call::DistMat | Call::SoftShadow => take_zeros(&mut lent.out, 0..1),
+        Call::Trace => take_zeros(&mut lent.out, 1..5),
+        Call::Direct | Call::DirectDiffuse => take_zeros(&mut lent.out, 0..3),
         Call::Build => {
             let corner = |i: &usize| i % NODE_WORDS < START;
             take_zeros(&mut lent.nodes, (0..NODES_WORDS).filter(corner));

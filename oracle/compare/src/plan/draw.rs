@@ -1,11 +1,11 @@
 //! Random plans: in clusters, about one centre, on whole numbers so that distances tie, tiny,
 //! huge, and over the whole domain; and points to ask from.
 
-use super::judge::{judge_light, EMISSION, UNIT};
+use super::judge::{judge_light, EMISSION};
 use super::layout::*;
 use super::model::{Light, Material, Piece, Plan, Prim};
 use crate::draw::{fit, within};
-use crate::judge::{self, judge_prim, Lowest, CAPSULE, COORD, DONE, KINDS, NORMAL, PLANE, POINT, RADIUS};
+use crate::judge::{self, judge_prim, Lowest, CAPSULE, COORD, DONE, KINDS, NORMAL, PLANE, POINT, RADIUS, UNIT};
 use crate::rng::Rng;
 use crate::scalar::draw::prim_args;
 

@@ -5,8 +5,8 @@ use super::check::expect;
 use super::layout::*;
 use super::lent::{Lent, Which};
 use super::model::Plan;
-use super::{draw, sound};
-use crate::call::Call;
+use super::{questions, sound};
+use crate::call::{Call, OUT_WORDS};
 use crate::chosen::NOT_FINITE;
 use crate::judge::{BAD_WORD, DONE, NO_ROOM};
 use crate::rng::Rng;
@@ -92,14 +92,10 @@ fn lend(rng: &mut Rng, turn: usize, junk_in_the_plan: bool) -> Lent {
 }
 
 fn args(rng: &mut Rng, call: Call) -> Vec<u32> {
-    let mut args = sound::args(call);
     if call.asks() {
-        args[..3].copy_from_slice(&draw::point(rng, &Plan::default()));
+        return questions::args(rng, &Plan::default(), call);
     }
-    if call == Call::Query {
-        args[3] = (rng.unit() * 2.0 - 1.0).to_bits();
-        args[4] = rng.word();
-    }
+    let mut args = sound::args(call);
     if call.args_words() == ROW {
         args[MATERIAL] = 0;
     }
@@ -114,22 +110,46 @@ fn judged(call: Call) -> &'static [usize] {
         Call::Build | Call::Offer => &[],
         Call::Query => &[0, 1, 2, 3],
         Call::DistMat => &[0, 1, 2],
+        Call::Trace => &[0, 3, 6, 7],
+        Call::SoftShadow => &[1, 4, 6, 7, 8],
+        Call::Direct => &[2, 5, 8, 9, 12, 13],
+        Call::DirectDiffuse => &[2, 5, 8],
         _ => call.stray(),
     }
 }
 
-/// The bound and its word come back, or `f32::MAX` and 0. Nothing is popped or evaluated.
+/// The bound and its word come back, or `f32::MAX` and 0; nothing is popped. A ray is asked about once
+/// and hits nothing; nothing shines.
 fn nothing_found(call: Call, lent: &Lent, args: &[u32]) -> Result<(), String> {
-    let want = match call {
-        Call::Query => [args[3], args[4], 0, 0],
-        Call::DistMat => [f32::MAX.to_bits(), 0, 0, 0],
+    let want: &[u32] = match call {
+        Call::Query => &args[3..5],
+        Call::DistMat => &[f32::MAX.to_bits(), 0],
+        Call::Trace => &[0, 0, 0, 0, 0, 0, 1],
+        Call::SoftShadow => &in_the_open(&args[6..]),
+        Call::Direct | Call::DirectDiffuse => &[],
         _ => call.stray(),
     };
-    let have = [0, 1, 2, 3].map(|i| lent.out.word(i));
-    if have == want {
+    let have: [u32; OUT_WORDS] = std::array::from_fn(|i| lent.out.word(i));
+    if have[..want.len()] == *want && have[want.len()..].iter().all(|&word| word == 0) {
         Ok(())
     } else {
         let have = words::show_all(&have);
         Err(format!("{}: the source finds {have}", call.name()))
     }
+}
+
+/// Visibility and count with nothing about, in the steps of 0.12 that are the longest. Only a `k` of
+/// next to nothing does not see the light.
+fn in_the_open(args: &[u32]) -> [u32; 2] {
+    let [mut t, tmax, k] = [0, 1, 2].map(|i| f32::from_bits(args[i]));
+    let (mut visible, mut count) = (1f32, 0);
+    while count < 96 && t < tmax {
+        count += 1;
+        visible = visible.min(k * f32::MAX / t.max(1e-4));
+        if visible < 1e-3 {
+            return [0, count];
+        }
+        t += 0.12;
+    }
+    [visible.to_bits(), count]
 }

@@ -4,14 +4,14 @@ use super::layout::*;
 use super::lent::Lent;
 use crate::call::{Call, OUT_BYTES};
 use crate::judge::{
-    judge_floats, judge_prim, magnitude, not_negative, Lowest, Range, BAD_WORD, COORD, DONE, NO_EXTENT, NO_MATERIAL,
-    NO_ROOM, NO_TREE, PLANE, POINT, RADIUS, WRONG_KIND,
+    judge_floats, judge_prim, magnitude, not_negative, Lowest, Range, ALONG, AT_CENTRE, BAD_WORD, COORD, DONE, NORMAL,
+    NO_EXTENT, NO_MATERIAL, NO_ROOM, NO_TREE, ORIGIN, PLANE, POINT, RADIUS, SHARPNESS, UNIT, WRONG_KIND,
 };
 use crate::source::vec3;
 use crate::tree::judged;
 use crate::words;
+use glam::Vec3;
 
-pub const UNIT: Range = not_negative(1.0);
 pub const EMISSION: Range = not_negative(10_000.0);
 pub const BOUND: Range = magnitude(f32::MAX);
 
@@ -36,6 +36,10 @@ pub fn number(call: Call, lent: &Lent) -> u32 {
     // tables are of full size then, and the plan's objects are sound.
     if lowest.number() == DONE {
         judge_tree(call, lent, &mut lowest);
+    }
+    // So is the number of a point that is at a light.
+    if lowest.number() == DONE && call.tests_lights() {
+        lowest.apply(AT_CENTRE, at_some_centre(lent));
     }
     lowest.number()
 }
@@ -72,16 +76,21 @@ fn judge_plan(call: Call, plan: &[u8], lowest: &mut Lowest) -> Option<State> {
     if some_high {
         return None;
     }
-    let cutters = judge_pieces(plan, counts, call.tests(), lowest);
+    let cutters = judge_pieces(plan, counts, call.tested_pieces(), lowest);
+    if call.tests_lights() {
+        for i in 0..counts[List::Lights as usize] as usize {
+            judge_light(&row(plan, LIGHTS.at(i)), lowest);
+        }
+    }
     Some(State { counts, cutters })
 }
 
 /// Judges the pieces of the lists, each with its cutters; gives the number of the latter.
-fn judge_pieces(plan: &[u8], counts: [u32; 4], lists: &[List], lowest: &mut Lowest) -> i64 {
+fn judge_pieces(plan: &[u8], counts: [u32; 4], lists: impl Iterator<Item = List>, lowest: &mut Lowest) -> i64 {
     let mut placed = true;
     let mut in_all = 0;
     let mut blocks = Vec::new();
-    for &list in lists {
+    for list in lists {
         let mut of_list = 0;
         for i in 0..counts[list as usize] as usize {
             let piece = row(plan, list.section().at(i));
@@ -138,13 +147,41 @@ fn judge_args(call: Call, args: &[u8], plan: Option<State>, lowest: &mut Lowest)
         Call::Build | Call::Offer => {}
         Call::AddPlane => judge_piece(&words, List::Planes, plan, lowest),
         Call::AddObject => judge_piece(&words, List::Objects, plan, lowest),
-        Call::Query => {
-            judge_floats(&words, &[POINT, POINT, POINT, BOUND], lowest);
-            // Then any material word.
-        }
-        Call::DistMat => judge_floats(&words, &[POINT; 3], lowest),
+        _ => judge_floats(&words, asked(call), lowest),
+    }
+}
+
+/// The ranges of the words that a call asks with; of a query's, the material word may be any.
+pub fn asked(call: Call) -> &'static [Range] {
+    const P: Range = POINT;
+    const O: Range = ORIGIN;
+    const N: Range = NORMAL;
+    const C: Range = COORD;
+    const U: Range = UNIT;
+    match call {
+        Call::Query => &[P, P, P, BOUND],
+        Call::DistMat => &[P, P, P],
+        Call::Trace => &[O, O, O, N, N, N, ALONG, ALONG],
+        Call::SoftShadow => &[O, O, O, N, N, N, ALONG, ALONG, SHARPNESS],
+        Call::Direct => &[C, C, C, N, N, N, N, N, N, U, U, U, U, U],
+        Call::DirectDiffuse => &[C, C, C, N, N, N, U, U, U],
         _ => call.stray(),
     }
+}
+
+/// Whether the computed length from the shading point to some light's centre is 0. The plan is
+/// sound, and so are the arguments.
+fn at_some_centre(lent: &Lent) -> bool {
+    let point = vec3(&words::all(lent.args.bytes()));
+    let lights = 0..lent.plan.word(List::Lights as usize) as usize;
+    let mut centres = lights.map(|i| centre(&row(lent.plan.bytes(), LIGHTS.at(i))));
+    centres.any(|centre| (centre - point).length() == 0.0)
+}
+
+/// A light's centre: its corners summed from the first to the last, then a quarter of that.
+pub fn centre(light: &[u32]) -> Vec3 {
+    let corner = |i: usize| vec3(&light[3 * i..]);
+    (((corner(0) + corner(1)) + corner(2)) + corner(3)) * 0.25
 }
 
 fn judge_piece(args: &[u32], list: List, plan: Option<State>, lowest: &mut Lowest) {

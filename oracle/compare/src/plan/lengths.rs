@@ -29,13 +29,15 @@ pub fn run() -> Result<String, String> {
 enum Broken {
     Nowhere,
     Plan,
+    /// A light in the plan.
+    Light,
     Args,
     /// The last cutter of a piece that is to enter.
     LastCutter,
 }
 
 impl Broken {
-    const ALL: [Broken; 4] = [Broken::Nowhere, Broken::Plan, Broken::Args, Broken::LastCutter];
+    const ALL: [Broken; 5] = [Broken::Nowhere, Broken::Plan, Broken::Light, Broken::Args, Broken::LastCutter];
 }
 
 #[derive(Clone, Copy)]
@@ -66,6 +68,8 @@ impl Case {
             Broken::Nowhere => {}
             // The blend of the last object.
             Broken::Plan => lent.plan.put(OBJECTS.at(2) + BLEND, &[NAN]),
+            // The last word of its emission.
+            Broken::Light => lent.plan.put(LIGHTS.at(0) + LIGHT_WORDS - 1, &[NAN]),
             Broken::Args => lent.args.put(usize::from(self.piece()), &[NAN]),
             Broken::LastCutter if self.piece() => lent.args.put(2 * ROW + 1, &[NAN]),
             Broken::LastCutter => {}
@@ -75,6 +79,14 @@ impl Case {
 
     fn piece(self) -> bool {
         self.call.args_words() == ROW
+    }
+
+    /// Whether the call tests what is broken in the plan.
+    fn tested(self) -> bool {
+        match self.broken {
+            Broken::Light => matches!(self.call, Call::Direct | Call::DirectDiffuse),
+            _ => !self.call.tests().is_empty(),
+        }
     }
 
     /// Tables that may be lent, their full sizes, and whether the call looks at them at all.
@@ -101,7 +113,7 @@ impl Case {
                 let plan_short = short && table == Which::Plan;
                 let judged = match self.broken {
                     Broken::Nowhere => false,
-                    Broken::Plan => !plan_short && !self.call.tests().is_empty(),
+                    Broken::Plan | Broken::Light => !plan_short && self.tested(),
                     Broken::Args => self.call.args_words() > 0,
                     Broken::LastCutter => self.piece(),
                 };
@@ -147,7 +159,7 @@ impl Case {
             for out_len in out_lens {
                 let judged = match self.broken {
                     Broken::Nowhere => false,
-                    Broken::Plan => !self.call.tests().is_empty(),
+                    Broken::Plan | Broken::Light => self.tested(),
                     Broken::Args => row > 0 && args_len >= row,
                     Broken::LastCutter => self.piece() && args_len >= need,
                 };

@@ -18,6 +18,7 @@ pub mod model;
 mod pairs;
 pub mod points;
 mod queries;
+pub mod questions;
 pub mod sound;
 pub mod source;
 

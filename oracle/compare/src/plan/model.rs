@@ -111,15 +111,21 @@ impl Plan {
         table
     }
 
-    /// The lists of pieces that are named, from a table in which they are sound; no others.
+    /// The lists that are named, from a table in which they are sound; no others.
     pub fn read(table: &[u8], lists: &[List]) -> Plan {
-        let pieces = |list: List| -> Vec<Piece> {
+        let records = |list: List| {
             let count = if lists.contains(&list) { words::word(table, list as usize) } else { 0 };
             let section = list.section();
-            let records = (0..count as usize).map(|i| section.at(i));
-            records.map(|at| read_piece(table, at)).collect()
+            (0..count as usize).map(move |i| section.at(i))
         };
-        Plan { planes: pieces(List::Planes), objects: pieces(List::Objects), ..Plan::default() }
+        let pieces = |list: List| -> Vec<Piece> { records(list).map(|at| read_piece(table, at)).collect() };
+        let light = |at: usize| -> Light { std::array::from_fn(|i| words::word(table, at + i)) };
+        Plan {
+            materials: Vec::new(),
+            planes: pieces(List::Planes),
+            lights: records(List::Lights).map(light).collect(),
+            objects: pieces(List::Objects),
+        }
     }
 }
 

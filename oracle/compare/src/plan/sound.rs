@@ -12,6 +12,12 @@ pub const MATERIAL: [f32; 5] = [0.75, 0.5, 0.25, 0.5, 1.0];
 /// A skew panel: no change of one word makes it flat.
 pub const LIGHT: [f32; LIGHT_WORDS] = [0.5, 3.0, 0.25, 2.5, 3.5, -0.5, 3.0, 3.25, 2.0, 0.75, 2.75, 2.5, 1.0, 20.0, 0.5];
 
+/// A point, from which a ray goes to the panel, or which has such a normal; and whence it is seen. No
+/// light has its centre there, also where all corners are whole numbers.
+pub const POINT: [f32; 3] = [1.1, -2.3, 3.6];
+pub const DIRECTION: [f32; 3] = [0.25, 0.75, -0.25];
+pub const VIEW: [f32; 3] = [-0.5, 0.5, 0.75];
+
 pub fn material() -> Material {
     MATERIAL.map(f32::to_bits)
 }
@@ -55,6 +61,10 @@ pub fn args(call: Call) -> Vec<u32> {
         Call::Build | Call::Offer => Vec::new(),
         Call::Query => [&point[..], &[100f32.to_bits(), 77]].concat(),
         Call::DistMat => point.to_vec(),
+        Call::Trace => words::bits(&[&POINT[..], &DIRECTION, &[0.25, 50.0]].concat()),
+        Call::SoftShadow => words::bits(&[&POINT[..], &DIRECTION, &[0.25, 50.0, 8.0]].concat()),
+        Call::Direct => words::bits(&[&POINT[..], &DIRECTION, &VIEW, &MATERIAL].concat()),
+        Call::DirectDiffuse => words::bits(&[&POINT[..], &DIRECTION, &MATERIAL[..3]].concat()),
         _ => call.stray(),
     }
 }

@@ -3,7 +3,8 @@
 use super::lent::Lent;
 use super::model::{Piece, Plan};
 use crate::call::{Call, OUT_WORDS};
-use crate::source::{prim, vec3};
+use crate::light;
+use crate::source::{self, prim, vec3};
 use crate::tree::judged;
 use crate::words::{self, same};
 use glam::Vec3;
@@ -18,7 +19,7 @@ pub fn scene(plan: &Plan) -> Scene {
         objects: objects(&plan.objects),
         planes: objects(&plan.planes),
         materials: Vec::new(),
-        lights: Vec::new(),
+        lights: plan.lights.iter().map(|light| source::light(light)).collect(),
         camera: Camera::default(),
         cfg: RenderCfg::default(),
         bvh: Bvh::build(&[]),
@@ -83,7 +84,7 @@ pub fn answer(call: Call, lent: &Lent, scene: Option<&Scene>) -> [u32; OUT_WORDS
             hit
         }
         Call::DistMat => scene.dist_mat(point),
-        _ => call.stray(),
+        _ => return light::answer::answer(call, scene, &args),
     };
     out[0] = hit.d.to_bits();
     out[1] = hit.mat;

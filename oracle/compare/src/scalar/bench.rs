@@ -68,7 +68,7 @@ fn shapes(wanted: impl Fn(u32) -> bool) -> Vec<Input> {
 }
 
 #[inline(always)]
-fn ours(call: Call, args: &[u8]) -> [u8; OUT_BYTES] {
+pub fn ours(call: Call, args: &[u8]) -> [u8; OUT_BYTES] {
     let mut out = [0; OUT_BYTES];
     viewer::send(call, args, &mut out);
     out

@@ -8,7 +8,7 @@ use crate::viewer;
 use crate::words::{self, same};
 
 /// What `out` holds before each call, so that a byte left as it was can be told.
-const BEFORE: u8 = 0xa5;
+pub const BEFORE: u8 = 0xa5;
 
 /// Calls our library and compares; gives the number sent, or what differs and on which inputs.
 pub fn check(call: Call, args: &[u8], out: &mut [u8]) -> Result<u32, String> {
@@ -37,7 +37,7 @@ pub fn expect(call: Call, args: &[u8], out: &mut [u8], number: u32) -> Result<()
     check(call, args, out).map(|_| ())
 }
 
-fn compare_out(call: Call, out: &[u8], want: &[u32; OUT_WORDS]) -> Result<(), String> {
+pub fn compare_out(call: Call, out: &[u8], want: &[u32; OUT_WORDS]) -> Result<(), String> {
     if out.len() < OUT_BYTES {
         return untouched(out, 0);
     }

@@ -3,6 +3,7 @@
 use super::words_of;
 use crate::call::{Call, OUT_BYTES};
 use crate::judge::*;
+use crate::plan::layout::MATERIAL_WORDS;
 
 pub const ROOT: Range = not_negative(f32::MAX);
 pub const ACOS: Range = magnitude(1.0);
@@ -30,6 +31,9 @@ fn judge_args(call: Call, args: &[u32], lowest: &mut Lowest) {
             judge_prim(args[0], &args[1..9], lowest);
             lowest.apply(WRONG_KIND, args[0] == PLANE);
         }
+        Call::FormFactor => judge_floats(args, &[POINT; 12], lowest),
+        Call::Fresnel => judge_floats(args, &[COSINE, UNIT, UNIT, UNIT], lowest),
+        Call::F0 | Call::DiffuseAlbedo => judge_floats(args, &[UNIT; MATERIAL_WORDS], lowest),
         _ => call.stray(),
     }
 }

@@ -1,13 +1,14 @@
-//! Comparisons of the calls that are lent `args` and `out` alone: root, arc cosine and shapes. `judge`
-//! says which number a call must send, `answer` what an accepted one answers, `check` makes the call
-//! and compares. The other files have the cases.
+//! Comparisons of the calls that are lent `args` and `out` alone: root, arc cosine, shapes, form factors
+//! and surfaces. `judge` says which number a call must send, `answer` what an accepted one answers, `check`
+//! makes the call and compares. The other files have the cases; random ones of form factors and surfaces are
+//! with the light.
 
 mod acos;
 mod acos_error;
 mod answer;
 pub mod bench;
-mod cases;
-mod check;
+pub mod cases;
+pub mod check;
 pub mod draw;
 mod judge;
 pub mod patterns;
@@ -29,7 +30,7 @@ pub const GATE: [Part; 5] = [
 ];
 
 /// The most words that one of these calls reads.
-const MOST_ARGS: usize = 12;
+pub const MOST_ARGS: usize = 12;
 
 /// The first words of `args`, as many as a call can read; 0 where there are none.
 fn words_of(args: &[u8]) -> [u32; MOST_ARGS] {

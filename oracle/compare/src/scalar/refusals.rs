@@ -1,7 +1,7 @@
 //! Refusals: tables of every length, several reasons at once, and a random mix of all of it.
 
 use super::cases::limits::{number_of_sound, sound};
-use super::cases::prim_args;
+use super::cases::{light, prim_args};
 use super::check::{check, expect};
 use super::judge::ACOS;
 use super::{draw, MOST_ARGS};
@@ -9,6 +9,7 @@ use crate::call::{Call, OUT_BYTES};
 use crate::chosen::{NOT_FINITE, UNKNOWN_KINDS};
 use crate::draw::within;
 use crate::judge::*;
+use crate::light::panels;
 use crate::rng::Rng;
 use crate::words;
 
@@ -45,6 +46,14 @@ fn by_content(call: Call) -> Vec<(Vec<u32>, u32)> {
             kinds.push((point_capsule(0.5), NO_EXTENT));
             kinds.push((point_capsule(-0.5), BAD_WORD));
             kinds
+        }
+        Call::FormFactor | Call::Fresnel | Call::F0 | Call::DiffuseAlbedo => {
+            let sound = light::sound(call);
+            let mut last = sound.clone();
+            *last.last_mut().unwrap() = NOT_FINITE[4];
+            let mut first = sound.clone();
+            first[0] = 300_000f32.to_bits();
+            vec![(sound, DONE), (last, BAD_WORD), (first, BAD_WORD)]
         }
         _ => call.stray(),
     }
@@ -129,9 +138,15 @@ fn mixed() -> Result<[usize; 10], String> {
 }
 
 fn faulty(rng: &mut Rng, call: Call) -> [u32; MOST_ARGS] {
-    let mut words = draw::prim_args(rng);
+    let mut words = match call {
+        Call::FormFactor => panels::corners(rng).map(f32::to_bits),
+        _ => draw::prim_args(rng),
+    };
     if matches!(call, Call::Root | Call::Acos) {
         words[0] = within(rng, ACOS).to_bits();
+    }
+    if matches!(call, Call::Fresnel | Call::F0 | Call::DiffuseAlbedo) {
+        words = words.map(|_| within(rng, UNIT).to_bits());
     }
     while rng.one_in(3) {
         let place = rng.below(MOST_ARGS);

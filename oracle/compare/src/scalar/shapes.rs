@@ -30,3 +30,23 @@ pub fn run() -> Result<String, String> {
     }
     Ok(format!("each the source's; by kind, distances {distances:?}, bounds {bounds:?}"))
 }
+
+#[cfg(test)]
+mod tests {
+    use super::*;
+    use crate::scalar::answer::answer;
+    use crate::scalar::judge;
+
+    /// So no field inside the domain is without a number.
+    #[test]
+    fn every_distance_is_a_number() {
+        let mut rng = Rng::new(15);
+        for _ in 0..20_000_000 {
+            let words = draw::prim_args(&mut rng);
+            if judge::number(Call::PrimDist, &words::bytes(&words), OUT_BYTES) == DONE {
+                let distance = f32::from_bits(answer(Call::PrimDist, &words)[0]);
+                assert!(distance.is_finite(), "{distance} of {words:08x?}");
+            }
+        }
+    }
+}

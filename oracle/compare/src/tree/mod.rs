@@ -14,7 +14,7 @@ mod rows;
 pub mod rules;
 mod search;
 mod shape;
-mod source;
+pub mod source;
 pub mod stack;
 mod strike;
 pub mod table;

@@ -9,10 +9,9 @@ use super::{draw, source};
 use crate::call::Call;
 use crate::judge::{BAD_TREE, DONE, NO_TREE, TOO_DEEP};
 use crate::plan::check::{check, expect};
-use crate::plan::draw::point;
 use crate::plan::lent::Lent;
 use crate::plan::model::Plan;
-use crate::plan::sound;
+use crate::plan::questions;
 use crate::plan::source::objects;
 use crate::progress::through;
 use crate::rng::Rng;
@@ -98,12 +97,7 @@ impl Case {
         self.lent.stand(tree);
         self.lent.tree = 1;
         let call = rng.pick(Call::ASKS);
-        let mut args = sound::args(call);
-        args[..3].copy_from_slice(&point(rng, &self.plan));
-        if call == Call::Query {
-            args[3] = rng.pick(&[f32::MAX, 1.0, 0.0, -f32::MAX]).to_bits();
-        }
-        self.lent.args(&args);
+        self.lent.args(&questions::args(rng, &self.plan, call));
         let number = if sent == DONE { DONE } else { NO_TREE };
         tally.stood += usize::from(number == DONE);
         tally.not += usize::from(number != DONE);

@@ -4,14 +4,16 @@
 mod strike;
 
 use super::check::check;
+use super::judge::centre;
 use super::layout::*;
 use super::lent::Lent;
 use super::model::{cutters_of, used, Plan};
-use super::{draw, sound};
+use super::{draw, questions, sound};
 use crate::call::Call;
 use crate::chosen::NAN;
 use crate::progress::through;
 use crate::rng::Rng;
+use crate::source::put_vec3;
 
 /// Damages of one plan before the next is drawn.
 const OF_A_PLAN: usize = 40;
@@ -19,9 +21,9 @@ const OF_A_PLAN: usize = 40;
 /// Fewer refusals with some number than one in this many damages would mean bad drawing.
 const LEAST: usize = 400;
 
-/// How often each call sent each number, 0 to 8.
+/// How often each call sent each number.
 #[derive(Default)]
-struct Sent([[usize; 9]; Call::ALL.len()]);
+struct Sent([[usize; 10]; Call::ALL.len()]);
 
 impl Sent {
     fn in_all(&self, number: usize) -> usize {
@@ -54,21 +56,22 @@ pub fn run(damages: usize) -> Result<String, String> {
             while rng.one_in(5) {
                 strike::strike(&mut rng, &plan, &mut lent.plan);
             }
+            let march = rng.pick(&[Call::Trace, Call::SoftShadow, Call::Direct, Call::DirectDiffuse]);
             let entry = rng.pick(Call::ENTRIES);
             let tree = rng.pick(Call::TREES);
             // What may be accepted comes last: the tree's call changes the tree, the entry all.
-            for call in [Call::ASKS, &[tree, entry]].concat() {
+            for call in [Call::Query, Call::DistMat, march, tree, entry] {
                 try_call(&mut rng, &plan, call, &mut lent, &mut sent)?;
             }
         }
     }
-    let in_all: Vec<usize> = (0..9).map(|number| sent.in_all(number)).collect();
+    let in_all: Vec<usize> = (0..10).map(|number| sent.in_all(number)).collect();
     // Trees that don't fit the number of objects are few, and none is deep.
-    if in_all[..6].iter().any(|&n| n < damages / LEAST) {
+    if in_all[..6].iter().chain(&in_all[9..]).any(|&n| n < damages / LEAST) {
         return Err(format!("badly drawn: of each number {in_all:?}"));
     }
     let lines = sent.lines();
-    Ok(format!("{damages} plans; of each number, 0 to 8, {in_all:?}{lines}"))
+    Ok(format!("{damages} plans; of each number, 0 to 9, {in_all:?}{lines}"))
 }
 
 /// Each word of one plan in turn, made no number: those that are read and no others are seen.
@@ -96,20 +99,23 @@ pub fn every_word() -> Result<String, String> {
     }
     for call in Call::on_plans() {
         let (have, want) = (sent.0[call as usize], read_words(&plan, call));
-        if have[1..6] != want || have[6..] != [0; 3] {
+        if have[1..6] != want || have[6..9] != [0; 3] {
             let name = call.name();
             return Err(format!("{name}: {have:?} numbers, of 1 to 5 must be {want:?}"));
         }
     }
     let lines = sent.lines();
-    Ok(format!("{PLAN_WORDS} in turn; of each number, 0 to 8{lines}"))
+    Ok(format!("{PLAN_WORDS} in turn; of each number, 0 to 9{lines}"))
 }
 
 /// How many words of a plan a call reads, by the number that they get when they are no number:
 /// apart from the judge.
 fn read_words(plan: &Plan, call: Call) -> [usize; 5] {
     let mut read = [0, 4, 0, 0, 0];
-    for &list in call.tests() {
+    if call.tests_lights() {
+        read[0] += LIGHT_WORDS * plan.lights.len();
+    }
+    for list in call.tested_pieces() {
         let pieces = match list {
             List::Planes => &plan.planes,
             _ => &plan.objects,
@@ -126,15 +132,14 @@ fn read_words(plan: &Plan, call: Call) -> [usize; 5] {
 }
 
 fn try_call(rng: &mut Rng, plan: &Plan, call: Call, lent: &mut Lent, sent: &mut Sent) -> Result<(), String> {
-    let mut args = sound::args(call);
-    if call.asks() {
-        args[..3].copy_from_slice(&draw::point(rng, plan));
-        if call == Call::Query {
-            args[3] = rng.pick(&[f32::MAX, 1.0, 0.0, -f32::MAX]).to_bits();
-            args[4] = rng.word();
-        }
-    } else if call.args_words() == ROW {
+    let mut args = if call.asks() { questions::args(rng, plan, call) } else { sound::args(call) };
+    if call.args_words() == ROW {
         args[MATERIAL] = 0;
+    }
+    if call.tests_lights() && !plan.lights.is_empty() && rng.one_in(6) {
+        // At a light's centre, if it still is one.
+        let light = rng.below(plan.lights.len());
+        put_vec3(&mut args, centre(&plan.lights[light]));
     }
     lent.args(&args);
     let number = check(call, lent)?;

@@ -7,8 +7,11 @@ use crate::plan::lent::Table;
 use crate::plan::model::{cutters_of, Plan};
 use crate::rng::Rng;
 
-/// Changes a word of the plan's table.
+/// Changes a word of the plan's table, or a corner of a light.
 pub fn strike(rng: &mut Rng, plan: &Plan, table: &mut Table) {
+    if !plan.lights.is_empty() && rng.one_in(16) {
+        return flat_light(rng, plan, table);
+    }
     let told = match rng.below(16) {
         0 => flatten(rng, plan, table),
         1 => other_kind(rng, plan),
@@ -43,6 +46,13 @@ fn flatten(rng: &mut Rng, plan: &Plan, table: &Table) -> Option<(usize, u32)> {
         }
     }
     (!found.is_empty()).then(|| rng.pick(&found))
+}
+
+/// Moves the second or the fourth corner of some light to its first.
+fn flat_light(rng: &mut Rng, plan: &Plan, table: &mut Table) {
+    let at = LIGHTS.at(rng.below(plan.lights.len()));
+    let first = [0, 1, 2].map(|i| table.word(at + i));
+    table.put(at + rng.pick(&[3, 9]), &first);
 }
 
 /// Makes some piece one of a kind that its list does not have; often its words are sound for it.

@@ -129,9 +129,9 @@ fn random(seed: u64) -> Result<Growing, String> {
 
 /// By the list, or by the tree if one still stands.
 fn ask(growing: &mut Growing) -> Result<(), String> {
-    growing.lent.args(&sound::args(Call::Query));
     growing.lent.tree = growing.rng.below(2) as u32;
     for &call in Call::ASKS {
+        growing.lent.args(&sound::args(call));
         let sent = check(call, &mut growing.lent)?;
         growing.sent[sent as usize] += 1;
     }

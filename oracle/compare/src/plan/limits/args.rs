@@ -3,20 +3,25 @@
 use super::{entry, kinds, own_words, shape, Cases};
 use crate::call::Call;
 use crate::chosen::{about, NAN, NOT_FINITE};
-use crate::judge::{BAD_WORD, COORD, DONE, KINDS, POINT, WRONG_KIND};
-use crate::plan::judge::{BOUND, EMISSION, UNIT};
+use crate::judge::{ALONG, BAD_WORD, COORD, DONE, KINDS, NORMAL, ORIGIN, POINT, SHARPNESS, UNIT, WRONG_KIND};
+use crate::plan::judge::{BOUND, EMISSION};
 use crate::plan::layout::*;
 use crate::plan::model::used;
 use crate::plan::sound;
 
-/// Materials, lights and the two calls that ask.
+/// Materials, lights and the calls that ask.
 pub fn simple(cases: &mut Cases) -> Result<(), String> {
     let light = [vec![COORD; 12], vec![EMISSION; 3]].concat();
+    let ray = [vec![ORIGIN; 3], vec![NORMAL; 3], vec![ALONG; 2]].concat();
     let ranges = [
         (Call::AddMaterial, vec![UNIT; 5]),
         (Call::AddLight, light),
         (Call::Query, vec![POINT, POINT, POINT, BOUND]),
         (Call::DistMat, vec![POINT; 3]),
+        (Call::Trace, ray.clone()),
+        (Call::SoftShadow, [ray, vec![SHARPNESS]].concat()),
+        (Call::Direct, [vec![COORD; 3], vec![NORMAL; 6], vec![UNIT; 5]].concat()),
+        (Call::DirectDiffuse, [vec![COORD; 3], vec![NORMAL; 3], vec![UNIT; 3]].concat()),
     ];
     for (call, ranges) in ranges {
         cases.args(&sound::args(call));

@@ -46,6 +46,7 @@ fn in_the_plan(list: List, piece: Piece, number: u32, cases: &mut Cases) -> Resu
     cases.every_call(&[], |call| if call.tests().contains(&list) { number } else { DONE })
 }
 
+/// Edges that are computed as nothing, given and in the plan.
 pub fn lights(cases: &mut Cases) -> Result<(), String> {
     // The second and the fourth corner; the first is at 0, the third anywhere.
     let edges = [
@@ -68,10 +69,17 @@ pub fn lights(cases: &mut Cases) -> Result<(), String> {
         for third in [[0.0; 3], [1.0, 1.0, 1.0], e1, e2] {
             for (e1, e2) in [(e1, e2), (e2, e1)] {
                 let corners = [[0.0; 3], e1, third, e2].concat();
-                cases.args(&words::bits(&[&corners[..], &[1.0; 3]].concat()));
+                let light = words::bits(&[&corners[..], &[1.0; 3]].concat());
+                cases.plan(&sound::plan());
+                cases.args(&light);
                 cases.hold(Call::AddLight, &[], &[], number)?;
+                let mut plan = sound::plan();
+                plan.lights.push(light.try_into().expect("fifteen words"));
+                cases.plan(&plan);
+                cases.every_call(&[], |call| if call.tests_lights() { number } else { DONE })?;
             }
         }
     }
+    cases.plan(&sound::plan());
     Ok(())
 }

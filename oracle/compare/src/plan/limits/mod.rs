@@ -3,6 +3,7 @@
 
 mod args;
 mod flat;
+mod lights;
 mod pieces;
 mod whole;
 
@@ -24,6 +25,7 @@ pub fn run() -> Result<String, String> {
         args::piece(list, &mut cases)?;
         pieces::run(list, &mut cases)?;
     }
+    lights::run(&mut cases)?;
     whole::counts(&mut cases)?;
     whole::sums(&mut cases)?;
     whole::never_read(&mut cases)?;
@@ -81,7 +83,7 @@ impl Cases {
         self.hold(call, &[(i, word)], &[], number)
     }
 
-    /// One word of the plan changed, for every call: `number` for those that test such a piece
+    /// One word of the plan changed, for every call: `number` for those that test such a record
     /// (`list`; all calls where there is none), 0 for the others.
     fn with_plan(&mut self, list: Option<List>, i: usize, word: u32, number: u32) -> Result<(), String> {
         let tested = |call: Call| list.is_none_or(|list| call.tests().contains(&list));

@@ -3,7 +3,7 @@
 use super::Cases;
 use crate::call::Call;
 use crate::chosen::NOT_FINITE;
-use crate::judge::{BAD_WORD, DONE, NO_MATERIAL, NO_ROOM, PLANE};
+use crate::judge::{BAD_WORD, DONE, NO_EXTENT, NO_MATERIAL, NO_ROOM, PLANE};
 use crate::plan::layout::*;
 use crate::plan::model::{cutters_of, used, Plan};
 use crate::plan::sound;
@@ -19,13 +19,13 @@ pub fn counts(cases: &mut Cases) -> Result<(), String> {
             cases.with_plan(None, list as usize, most + more, NO_ROOM)?;
         }
         cases.every_call(&[(list as usize, most)], |call| {
-            // Among planes such a record is at place 0, where 1,024 must stand.
-            let misplaced = list == List::Planes && call.tests().contains(&list);
-            let refused = call.enters() == Some(list) || misplaced;
-            if refused {
-                NO_ROOM
-            } else {
-                DONE
+            match list {
+                _ if call.enters() == Some(list) => NO_ROOM,
+                // Among planes such a record is at place 0, where 1,024 must stand.
+                List::Planes if call.tests().contains(&list) => NO_ROOM,
+                // All corners of such a light are one.
+                List::Lights if call.tests().contains(&list) => NO_EXTENT,
+                _ => DONE,
             }
         })?;
     }
@@ -56,7 +56,7 @@ pub fn sums(cases: &mut Cases) -> Result<(), String> {
                 args[CUTS] = 0;
             }
             cases.args(&args);
-            let (tested, both) = (!call.tests().is_empty(), call.tests().len() == 2);
+            let (tested, both) = (!call.tests().is_empty(), call.tests().contains(&List::Planes));
             let number = if both && of_plane == 1 { NO_ROOM } else { DONE };
             cases.hold(call, &[], &[], number)?;
             // Where they are too many no cutter's words are judged, else the last one's are too.
@@ -78,15 +78,17 @@ pub fn sums(cases: &mut Cases) -> Result<(), String> {
     Ok(())
 }
 
-/// Spare words, records past the counts, cutters in no use, materials and lights: these calls
-/// don't read them, and an entry leaves them, but for the records that it writes.
+/// Spare words, records past the counts, cutters in no use and materials: no call reads them, and an
+/// entry leaves them, but for the records that it writes.
 pub fn never_read(cases: &mut Cases) -> Result<(), String> {
     let plan = sound::plan();
     let table = plan.table();
     let mut places: Vec<usize> = (4..COUNTS.words).collect();
     for section in [MATERIALS, LIGHTS] {
         for record in [0, 1, 2, 3, section.records - 1] {
-            places.extend(section.at(record)..section.at(record + 1));
+            // The one light there is has words that are read.
+            let read = if section.first == LIGHTS.first && record == 0 { LIGHT_WORDS } else { 0 };
+            places.extend(section.at(record) + read..section.at(record + 1));
         }
     }
     for (section, pieces) in [(PLANES, &plan.planes), (OBJECTS, &plan.objects)] {

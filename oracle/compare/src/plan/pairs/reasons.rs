@@ -4,7 +4,9 @@ use super::base::{Base, UPRIGHT};
 use super::reason::{Change, Of, Reason};
 use crate::call::{Call, OUT_BYTES};
 use crate::chosen::NAN;
-use crate::judge::{BAD_TREE, BAD_WORD, CAPSULE, NO_EXTENT, NO_MATERIAL, NO_ROOM, NO_TREE, PLANE, WRONG_KIND};
+use crate::judge::{
+    AT_CENTRE, BAD_TREE, BAD_WORD, CAPSULE, NO_EXTENT, NO_MATERIAL, NO_ROOM, NO_TREE, PLANE, WRONG_KIND,
+};
 use crate::plan::layout::*;
 use crate::plan::lent::Which::{Args, Nodes, OfferedNodes, OfferedOrder, Order, Out, Plan};
 use crate::plan::sound;
@@ -25,8 +27,11 @@ pub fn reasons(call: Call, tree: u32, base: &Base) -> Vec<Reason> {
     lent(call, &mut reasons);
     trees(call, tree, &mut reasons);
     counts(call, base, &mut reasons);
-    for &list in call.tests() {
+    for list in call.tested_pieces() {
         pieces(list, base, &mut reasons);
+    }
+    if call.tests_lights() {
+        lights(&mut reasons);
     }
     args(call, &mut reasons);
     reasons.0
@@ -131,17 +136,29 @@ fn pieces(list: List, base: &Base, reasons: &mut Reasons) {
     }
 }
 
+/// The one light of the plan: broken words, corners that are one, and its centre at the point.
+fn lights(reasons: &mut Reasons) {
+    let at = LIGHTS.at(0);
+    reasons.add(BAD_WORD, Of::Pieces, [Word(Plan, at + 11, NAN)]);
+    reasons.add(BAD_WORD, Of::Pieces, [Word(Plan, at + 12, (-1f32).to_bits())]);
+    let first = |i: usize| sound::LIGHT[i].to_bits();
+    reasons.add(NO_EXTENT, Of::Pieces, [0, 1, 2].map(|i| Word(Plan, at + 3 + i, first(i))));
+    reasons.add(NO_EXTENT, Of::Pieces, [0, 1, 2].map(|i| Word(Plan, at + 9 + i, first(i))));
+    // With the second corner moved it is not the centre any more, but a lower number is sent then.
+    let centre = |i: usize| (0..4).map(|corner| sound::LIGHT[3 * corner + i]).sum::<f32>() * 0.25;
+    reasons.add(AT_CENTRE, Of::Lent, [0, 1, 2].map(|i| Word(Args, i, centre(i).to_bits())));
+}
+
 fn args(call: Call, reasons: &mut Reasons) {
     let given = |(i, word)| Word(Args, i, word);
     match call {
         Call::Build | Call::Offer => {}
-        Call::AddMaterial | Call::DistMat => {
-            reasons.add(BAD_WORD, Of::Args, [Word(Args, 0, NAN)]);
-        }
-        Call::Query => {
-            reasons.add(BAD_WORD, Of::Args, [Word(Args, 0, NAN)]);
-            reasons.add(BAD_WORD, Of::Args, [Word(Args, 3, NAN)]);
-        }
+        Call::AddMaterial | Call::DistMat => bad_args(&[0], reasons),
+        Call::Query => bad_args(&[0, 3], reasons),
+        Call::Trace => bad_args(&[2, 3, 7], reasons),
+        Call::SoftShadow => bad_args(&[1, 6, 8], reasons),
+        Call::Direct => bad_args(&[1, 8, 13], reasons),
+        Call::DirectDiffuse => bad_args(&[2, 5, 6], reasons),
         Call::AddLight => {
             reasons.add(BAD_WORD, Of::Args, [Word(Args, 12, NAN)]);
             // The second corner at the first; the fourth at the first; the fourth at the second.
@@ -169,5 +186,11 @@ fn args(call: Call, reasons: &mut Reasons) {
             }
         }
         _ => call.stray(),
+    }
+}
+
+fn bad_args(places: &[usize], reasons: &mut Reasons) {
+    for &i in places {
+        reasons.add(BAD_WORD, Of::Args, [Word(Args, i, NAN)]);
     }
 }

@@ -1,7 +1,8 @@
-//! Chosen cases, each with the number that it must get: document 01's rows, the limits of each word, and
-//! degenerate shapes.
+//! Chosen cases, each with the number that it must get: document 01's rows, the limits of each word,
+//! degenerate shapes and panels.
 
 pub mod degenerate;
+pub mod light;
 pub mod limits;
 pub mod rows;
 
@@ -10,6 +11,7 @@ use super::check::expect;
 use crate::call::{Call, OUT_BYTES};
 use crate::words;
 use degenerate::degenerate;
+use light::light;
 use limits::limits;
 use rows::rows;
 
@@ -29,11 +31,12 @@ pub fn run() -> Result<String, String> {
         }
         hold(&row.case)?;
     }
-    let (limits, degenerate) = (limits(), degenerate());
-    for case in limits.iter().chain(&degenerate) {
+    let (limits, degenerate, light) = (limits(), degenerate(), light());
+    for case in limits.iter().chain(&degenerate).chain(&light) {
         hold(case)?;
     }
-    Ok(format!("{} rows, {} at limits, {} degenerate", rows.len(), limits.len(), degenerate.len()))
+    let (limits, degenerate, light) = (limits.len(), degenerate.len(), light.len());
+    Ok(format!("{} rows, {limits} at limits, {degenerate} degenerate, {light} of light", rows.len()))
 }
 
 fn hold(case: &Case) -> Result<(), String> {
