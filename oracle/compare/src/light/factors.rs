@@ -4,16 +4,13 @@
 use super::panels;
 use crate::call::{Call, OUT_BYTES};
 use crate::judge::DONE;
-use crate::progress::Progress;
+use crate::progress::through_short;
 use crate::rng::Rng;
 use crate::scalar::check::check;
 use crate::words;
 use glam::Vec3;
 use interflect_formula::differences::met;
 use interflect_formula::ltc::clip_to_horizon;
-
-/// Panels between two looks at the clock.
-const CHUNK: usize = 1 << 14;
 
 pub fn run(panels: usize) -> Result<String, String> {
     let mut rng = Rng::new(61);
@@ -22,8 +19,7 @@ pub fn run(panels: usize) -> Result<String, String> {
     // How often a clip ended with so many corners, and how often some light came through.
     let (mut clipped, mut seen) = ([0; 6], 0);
     let before = met();
-    let progress = Progress::new("factors", panels, "panels");
-    for i in 0..panels {
+    for _ in through_short("factors", panels, "panels") {
         let corners = panels::corners(&mut rng);
         words::put(&mut args, &words::bits(&corners));
         assert_eq!(check(Call::FormFactor, &args, &mut out)?, DONE, "corners are drawn sound");
@@ -31,9 +27,6 @@ pub fn run(panels: usize) -> Result<String, String> {
         let corners: [Vec3; 4] =
             std::array::from_fn(|i| Vec3::new(corners[3 * i], corners[3 * i + 1], corners[3 * i + 2]));
         clipped[clip_to_horizon(&corners, &mut [Vec3::ZERO; 5])] += 1;
-        if i % CHUNK == 0 && i > 0 {
-            progress.add(CHUNK);
-        }
     }
     // Each is clipped twice.
     let sixth = (met().sixth - before.sixth) as usize / 2;
