@@ -3,19 +3,21 @@ ghost use mathlib.Core.Path.{_≡_};
 ghost use Rattle.bsdf.specs.Bsdf.{fresnelOf, dGgxOf, smithPart, vSmithOf, f0Of, diffuseAlbedoOf};
 use vec::Vec3;
 
-pub fn fresnel_schlick(cos_theta: f32, f0: Vec3) -> Vec3
-    ensures { λ r. ⌜ r ≡ fresnelOf cos-theta f0 ⌝ }
+// At the cosine c; f0 is what is reflected straight on.
+pub fn fresnel_schlick(c: f32, f0: Vec3) -> Vec3
+    ensures { λ r. ⌜ r ≡ fresnelOf c f0 ⌝ }
 {
-    let m = scalar::clamp(1.0 - cos_theta, 0.0, 1.0);
+    let m = scalar::clamp(1.0 - c, 0.0, 1.0);
     let m2 = m * m;
     f0.add(Vec3::splat(1.0).sub(f0).scale(m2 * m2 * m))
 }
 
-pub fn d_ggx(n_dot_h: f32, alpha: f32) -> f32
-    ensures { λ r. ⌜ r ≡ dGgxOf n-dot-h alpha ⌝ }
+// At the cosine h of the half vector.
+pub fn d_ggx(h: f32, alpha: f32) -> f32
+    ensures { λ r. ⌜ r ≡ dGgxOf h alpha ⌝ }
 {
     let a2 = alpha * alpha;
-    let d = n_dot_h * n_dot_h * (a2 - 1.0) + 1.0;
+    let d = h * h * (a2 - 1.0) + 1.0;
     a2 / scalar::max(3.14159274 * d * d, 0.000000001)
 }
 
@@ -26,13 +28,13 @@ fn smith_part(x: f32, y: f32, a2: f32) -> f32
     x * root::root(y * y * (1.0 - a2) + a2)
 }
 
-// Already divided by four times both cosines.
-pub fn v_smith(n_dot_v: f32, n_dot_l: f32, alpha: f32) -> f32
-    ensures { λ r. ⌜ r ≡ vSmithOf n-dot-v n-dot-l alpha ⌝ }
+// At the cosines v of the view and l of the light; already divided by four times both.
+pub fn v_smith(v: f32, l: f32, alpha: f32) -> f32
+    ensures { λ r. ⌜ r ≡ vSmithOf v l alpha ⌝ }
 {
     let a2 = alpha * alpha;
-    let gv = smith_part(n_dot_l, n_dot_v, a2);
-    let gl = smith_part(n_dot_v, n_dot_l, a2);
+    let gv = smith_part(l, v, a2);
+    let gl = smith_part(v, l, a2);
     0.5 / scalar::max(gv + gl, 0.000000001)
 }
 

@@ -1,7 +1,7 @@
 -- A quad's form factor, in the local frame of a point: the source's `clip_to_horizon` and `quad_form_factor`.
 -- "`clip_to_horizon` has five places, and with corner heights below, at or above, below, at or above the horizon the
 -- Rust faults on a sixth corner; here the clip ends with the five it has." Definitions only.
-use mathlib.Core.Bool.{Bool, not, cond, Bool·beq}
+use mathlib.Core.Bool.{Bool, cond, Bool·beq}
 use mathlib.Core.List.{List, [], _∷_, _++_, map}
 use lib.ListN.{take}
 use lib.Ieee.{Float, neg, le, lt}

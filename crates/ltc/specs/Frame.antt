@@ -6,31 +6,28 @@ use Rattle.scalar.specs.F32.{_⊕_, _⊗_, _⊘_, f0, f1}
 use Rattle.vec.specs.declared.Vec3.{Vec3}
 use Rattle.vec.specs.Vec.{vsub, vdot}
 use Rattle.quad.specs.declared.Quad.{Quad}
-use Rattle.ltc.specs.declared.Frame.{Frame}
+use Rattle.ltc.specs.declared.Axes.{Axes}
 
--- 1 with the sign of the normal's z, and -1 by (s + z)
-abbrev pub sideOf : Vec3 → Float
-sideOf n = cond (le f0 (n .z)) f1 (neg f1)
+-- 1 with the sign of a normal's z
+unfoldable pub sideOf : Float → Float
+sideOf z = cond (le f0 z) f1 (neg f1)
 
-abbrev pub slopeOf : Vec3 → Float
-slopeOf n = neg f1 ⊘ (sideOf n ⊕ n .z)
-
-unfoldable pub frameOf : Vec3 → Frame
+unfoldable pub frameOf : Vec3 → Axes
 frameOf n =
-    let s = sideOf n in
-    let a = slopeOf n in
+    let s = sideOf (n .z) in
+    let a = neg f1 ⊘ (s ⊕ n .z) in
     let b = n .x ⊗ n .y ⊗ a in
     record {
       tan = record { x = f1 ⊕ s ⊗ n .x ⊗ n .x ⊗ a; y = s ⊗ b; z = neg s ⊗ n .x };
       bit = record { x = b; y = s ⊕ n .y ⊗ n .y ⊗ a; z = neg (n .y) };
     }
 
-unfoldable pub localOf : Vec3 → Vec3 → Frame → Vec3 → Vec3
+unfoldable pub localOf : Vec3 → Vec3 → Axes → Vec3 → Vec3
 localOf v p f n =
     let d = vsub v p in
     record { x = vdot d (f .tan); y = vdot d (f .bit); z = vdot d n }
 
-unfoldable pub toLocalOf : Quad → Vec3 → Frame → Vec3 → Quad
+unfoldable pub toLocalOf : Quad → Vec3 → Axes → Vec3 → Quad
 toLocalOf q p f n =
     record {
       v0 = localOf (q .v3) p f n;

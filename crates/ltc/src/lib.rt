@@ -1,18 +1,17 @@
 // A quad's share of the cosine-weighted hemisphere, in closed form: the quad is seen from a point, cut at the horizon,
 // and its edges' angles are summed.
 ghost use mathlib.Core.Path.{_≡_};
-ghost use mathlib.Core.Bool.{cond};
-ghost use mathlib.Core.List.{List, [], _∷_, _++_};
-ghost use lib.ListN.{length, take};
-ghost use Rattle.ltc.specs.Frame.{frameOf, localOf, toLocalOf};
-ghost use Rattle.ltc.specs.FormFactor.{above, crossingOf, clipEdge, clipOf, onSphere, edgeSum, ringOf};
+ghost use mathlib.Core.List.{[], _∷_, _++_};
+ghost use lib.ListN.{take};
+ghost use Rattle.ltc.specs.Frame.{sideOf, frameOf, localOf, toLocalOf};
+ghost use Rattle.ltc.specs.FormFactor.{crossingOf, clipEdge, clipOf, onSphere, edgeSum, ringOf};
 ghost use Rattle.ltc.specs.FormFactor.{formFactorOf};
 ghost use Rattle.ltc.specs.Inside.Corners.{cornersIn};
 use quad::Quad;
 use vec::Vec3;
 
 // Two directions across a normal.
-pub struct Frame {
+pub struct Axes {
     pub tan: Vec3,
     pub bit: Vec3,
 }
@@ -27,14 +26,21 @@ pub struct Corners {
     pub c4: Vec3,
 }
 
-// No degenerate case but a normal whose z is -1: there 1/0 comes in, as in the source.
-pub fn frame(n: Vec3) -> Frame
+// 1 with the sign of a normal's z.
+fn side(z: f32) -> f32
+    ensures { λ r. ⌜ r ≡ sideOf z ⌝ }
+{
+    if z >= 0.0 { 1.0 } else { -1.0 }
+}
+
+// No degenerate case: s has the sign of z, so that s + z is never 0.
+pub fn frame(n: Vec3) -> Axes
     ensures { λ r. ⌜ r ≡ frameOf n ⌝ }
 {
-    let s: f32 = if n.z >= 0.0 { 1.0 } else { -1.0 };
+    let s = side(n.z);
     let a = -1.0 / (s + n.z);
     let b = n.x * n.y * a;
-    Frame {
+    Axes {
         tan: Vec3 {
             x: 1.0 + s * n.x * n.x * a,
             y: s * b,
@@ -49,7 +55,7 @@ pub fn frame(n: Vec3) -> Frame
 }
 
 // The corner v seen from p.
-fn local(v: Vec3, p: Vec3, f: Frame, n: Vec3) -> Vec3
+fn local(v: Vec3, p: Vec3, f: Axes, n: Vec3) -> Vec3
     ensures { λ r. ⌜ r ≡ localOf v p f n ⌝ }
 {
     let d = v.sub(p);
@@ -61,7 +67,7 @@ fn local(v: Vec3, p: Vec3, f: Frame, n: Vec3) -> Vec3
 }
 
 // The corners are reversed: seen from the receiver they go round the other way.
-pub fn to_local(q: Quad, p: Vec3, f: Frame, n: Vec3) -> Quad
+pub fn to_local(q: Quad, p: Vec3, f: Axes, n: Vec3) -> Quad
     ensures { λ r. ⌜ r ≡ toLocalOf q p f n ⌝ }
 {
     Quad {
@@ -90,17 +96,36 @@ fn none() -> Corners
 fn put(c: Corners, v: Vec3) -> Corners
     ensures { λ r. ⌜ cornersIn r ≡ take 5 (cornersIn c ++ (v ∷ [])) ⌝ }
 {
+    let n = c.n;
     let mut r = c;
-    match c.n {
-        0 => r.c0 = v,
-        1 => r.c1 = v,
-        2 => r.c2 = v,
-        3 => r.c3 = v,
-        4 => r.c4 = v,
+    match n {
+        0 => {
+            r.c0 = v;
+            r.n = 1;
+            return r;
+        }
+        1 => {
+            r.c1 = v;
+            r.n = 2;
+            return r;
+        }
+        2 => {
+            r.c2 = v;
+            r.n = 3;
+            return r;
+        }
+        3 => {
+            r.c3 = v;
+            r.n = 4;
+            return r;
+        }
+        4 => {
+            r.c4 = v;
+            r.n = 5;
+            return r;
+        }
         _ => return c,
     }
-    r.n = c.n + 1;
-    r
 }
 
 // Where the edge from a to b crosses the horizon.
@@ -115,14 +140,16 @@ fn crossing(a: Vec3, b: Vec3) -> Vec3
 fn clip_edge(c: Corners, a: Vec3, b: Vec3) -> Corners
     ensures { λ r. ⌜ cornersIn r ≡ take 5 (cornersIn c ++ clipEdge a b) ⌝ }
 {
-    let mut r = c;
     if a.z >= 0.0 {
-        r = put(r, a);
+        if b.z >= 0.0 {
+            return put(c, a);
+        }
+        return put(put(c, a), crossing(a, b));
     }
-    if (a.z >= 0.0) != (b.z >= 0.0) {
-        r = put(r, crossing(a, b));
+    if b.z >= 0.0 {
+        return put(c, crossing(a, b));
     }
-    r
+    c
 }
 
 fn clip_to_horizon(q: Quad) -> Corners
@@ -138,9 +165,9 @@ fn clip_to_horizon(q: Quad) -> Corners
 fn on_sphere(v: Vec3) -> Vec3
     ensures { λ r. ⌜ r ≡ onSphere v ⌝ }
 {
-    let len = v.length();
-    if len > 0.000000001 {
-        return v.over(len);
+    let size = v.length();
+    if size > 0.000000001 {
+        return v.over(size);
     }
     v
 }

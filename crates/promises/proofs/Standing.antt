@@ -1,4 +1,4 @@
--- A query or `dist_mat` by the tree that is not refused searches an accepted tree: by exact tests. Assumes nothing.
+-- A call by the tree that is not refused searches an accepted tree only: by exact tests. Assumes nothing.
 use Prim.Native.Nat.{ℕ, zero, suc, _≤_}
 use native.Mathlib.Omega.{arith}
 use mathlib.Core.Path.{_≡_, refl, sym, _∙_, subst}
@@ -7,6 +7,7 @@ use mathlib.Core.Bool.{Bool, true, false, cond, _&&_, and-eq-true-iff}
 use mathlib.Core.List.{List, [], _∷_}
 use lib.ListN.{length}
 use lib.Dec.{T, eqb·suc-zero}
+use lib.Seq.{take-all}
 use lib.Ieee.{Float, ofBits, neg, lt, le, eq}
 use denote.Floats.{passes}
 use Rattle.scalar.specs.Ranges.{between, magnitude}
@@ -18,8 +19,8 @@ use Rattle.plan.specs.declared.DistHit.{DistHit}
 use Rattle.plan.specs.Sections.{tableWords, objects}
 use Rattle.plan.specs.Plan.{Piece, countOf, planOf}
 use Rattle.plan.specs.Nearest.{hitOf, closer, nearest, nothing}
-use Rattle.plan_test.specs.Tests.{objectsNumber, solidsOf}
-use Rattle.plan_test.proofs.Exact.{objects-exact, solids-exact}
+use Rattle.plan_test.specs.Tests.{objectsNumber, solidsOf, litNumber}
+use Rattle.plan_test.proofs.Exact.{objects-exact, solids-exact, lit-exact}
 use Rattle.float_order.proofs.Order.{le-right, lt-left, number-eq}
 use Rattle.bvh_boxes.specs.Boxes.{boxesOf}
 use Rattle.bvh_boxes.proofs.Lists.{boxes-length, box-count}
@@ -32,9 +33,11 @@ use Rattle.bvh_search.specs.Search.{searched}
 use Rattle.bvh_search.specs.Field.{hitBy, fieldBy}
 use Rattle.bvh_search.specs.Demand.{Demand}
 use Rattle.bvh_search.proofs.Demand.{demand-three, search-empty}
+use Rattle.panel.specs.Panels.{panelsNumber}
 use Rattle.reply.specs.declared.Reply.{Reply}
 use Rattle.reply.specs.Reply.{refusedReply, replyOf}
-use Rattle.bemitondry.specs.Calls.{argVec, argFloat, treeNumber, queryNumber, queryBound, distMatNumber}
+use Rattle.bemitondry_ask.specs.Asks.{argVec, argFloat, treeNumber, queryNumber, queryBound, solidsAsk}
+use Rattle.bemitondry_light.specs.Light.{panels, litAsk}
 
 -- the tree that a call's table holds for its plan's objects
 abbrev pub AcceptedIn : List ℕ → List Float → Tree → Type 0
@@ -102,11 +105,11 @@ unfolding eq ofBits
 nothing-number = tt
 
 -- ---- the calls
--- what the objects' search starts from in `dist_mat`: the planes in order
+-- what the objects' search starts from in a field: the planes in order
 abbrev pub planesHit : List ℕ → List Float → Vec3 → DistHit
 planesHit w f p = nearest (planOf w f .planes) p nothing
 
--- of the point and the bound in the arguments, where the call's number is 0
+-- where a call's number is 0: a query of the point and the bound in its arguments
 module _ (before : ℕ) (w : List ℕ) (f : List Float) (long : length w ≡ tableWords) where
   pub query-stands
       : lower (queryNumber before w f) (treeNumber 1 w f) ≡ 0
@@ -123,20 +126,53 @@ module _ (before : ℕ) (w : List ℕ) (f : List Float) (long : length w ≡ tab
       let few = objects-exact (planOf w f) .0 (c .1) .counts .objects in
       stood w f long few (a .1) (argVec f 0) (queryBound w f) (finite-number (argFloat f 3) (d .1))
 
-  pub dist-mat-stands
-      : lower (distMatNumber before w f) (treeNumber 1 w f) ≡ 0
-      → (fieldBy 1 w f (argVec f 0) ≡ hitBy 1 w f (argVec f 0) (planesHit w f (argVec f 0)) .hit)
-      × Stood w f (argVec f 0) (planesHit w f (argVec f 0)) (hitBy 1 w f (argVec f 0) (planesHit w f (argVec f 0)))
-  unfolding distMatNumber fieldBy
-  dist-mat-stands answered =
-      let near = within (argVec f 0) farthest in
+  -- at every point whatever, the field of a call whose number is 0 is such a search from the planes' nearest
+  pub field-stands
+      : length (planOf w f .objects) ≤ 256
+      → treeNumber 1 w f ≡ 0
+      → (p : Vec3)
+      → (fieldBy 1 w f p ≡ hitBy 1 w f p (planesHit w f p) .hit)
+      × Stood w f p (planesHit w f p) (hitBy 1 w f p (planesHit w f p))
+  unfolding fieldBy
+  field-stands few e p =
+      let n = nearest-number (planOf w f .planes) p nothing nothing-number in
+      (refl, stood w f long few e p (planesHit w f p) n)
+
+  -- `dist_mat`, `trace` and `soft_shadow`
+  pub solids-stand
+      : (given : Bool)
+      → lower (solidsAsk before given w f) (treeNumber 1 w f) ≡ 0
+      → (p : Vec3)
+      → (fieldBy 1 w f p ≡ hitBy 1 w f p (planesHit w f p) .hit)
+      × Stood w f p (planesHit w f p) (hitBy 1 w f p (planesHit w f p))
+  unfolding solidsAsk
+  solids-stand given answered =
       let number = solidsOf (planOf w f) .number in
-      let a = lower-zero (distMatNumber before w f) (treeNumber 1 w f) .0 answered in
-      let b = lower-zero before (lower (unless 1 near) number) .0 (a .0) in
-      let c = lower-zero (unless 1 near) number .0 (b .1) in
-      let few = solids-exact (planOf w f) .0 (c .1) .counts .objects in
-      let n = nearest-number (planOf w f .planes) (argVec f 0) nothing nothing-number in
-      (refl, stood w f long few (a .1) (argVec f 0) (planesHit w f (argVec f 0)) n)
+      let a = lower-zero (solidsAsk before given w f) (treeNumber 1 w f) .0 answered in
+      let b = lower-zero before (lower (unless 1 given) number) .0 (a .0) in
+      let c = lower-zero (unless 1 given) number .0 (b .1) in
+      field-stands (solids-exact (planOf w f) .0 (c .1) .counts .objects) (a .1)
+
+  -- `direct` and `direct_diffuse`, asked at q
+  pub lit-stand
+      : (given : ℕ) (q : Vec3)
+      → litAsk before given 1 q w f ≡ 0
+      → (p : Vec3)
+      → (fieldBy 1 w f p ≡ hitBy 1 w f p (planesHit w f p) .hit)
+      × Stood w f p (planesHit w f p) (hitBy 1 w f p (planesHit w f p))
+  unfolding litAsk
+  lit-stand given q answered =
+      let number = litNumber (planOf w f) in
+      let plan = lower before (lower given number) in
+      let a = lower-zero (lower plan (treeNumber 1 w f)) (panelsNumber q (panels w f)) .0 answered in
+      let b = lower-zero plan (treeNumber 1 w f) .0 (a .0) in
+      let c = lower-zero before (lower given number) .0 (b .0) in
+      let d = lower-zero given number .0 (c .1) in
+      field-stands (lit-exact (planOf w f) .0 (d .1) .solids .counts .objects) (b .1)
+
+-- the lights that such a call goes through are all of the plan's
+pub panels-all : (w : List ℕ) (f : List Float) → litNumber (planOf w f) ≡ 0 → panels w f ≡ planOf w f .lights
+panels-all w f e = take-all 16 (planOf w f .lights) (lit-exact (planOf w f) .0 e .solids .counts .lights)
 
 -- a reply whose number is 0 was not refused, and is the answer
 pub not-refused : (n : ℕ) (r : Reply) → replyOf n r .number ≡ 0 → (n ≡ 0) × (replyOf n r ≡ r)

@@ -5,13 +5,13 @@ use Prim.Native.Nat.{ℕ}
 use lib.Ieee.{Float}
 use Rattle.plan.specs.Plan.{Plan}
 use Rattle.reply.specs.declared.Reply.{Reply}
-use Rattle.bemitondry.specs.Entries.{EntersTable}
-use Rattle.bemitondry.specs.Trees.{BuildLeaves, OfferLeaves}
+use Rattle.bemitondry_entry.specs.Entries.{EntersTable}
+use Rattle.bemitondry_tree.specs.Trees.{BuildLeaves, OfferLeaves}
 use Rattle.wire.specs.Sent.{Sent}
 use Rattle.viewer.specs.Entries.{EntrySent, ObjectOn}
 use Rattle.viewer.specs.Trees.{BuildOn, OfferOn}
 
--- a call that asks: its reply is rootReply, acosReply, primDistReply, primBoundsReply, queryReply or distMatReply
+-- a call that leaves only an answer: its promise is one equation, of its reply
 pub only : {A : Type 0} {is r s : A} → r ≡ is → s ≡ is → r ≡ s
 only p q = p ∙ sym q
 

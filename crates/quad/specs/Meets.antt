@@ -1,6 +1,6 @@
 -- Where a ray meets a quad (the source's `intersect_quad`), and the quad's point nearest to another
 -- (`closest_on_quad`). Definitions only.
-use mathlib.Core.Bool.{cond, _&&_}
+use mathlib.Core.Bool.{Bool, cond, _&&_}
 use lib.Ieee.{Float, lt}
 use Rattle.scalar.specs.F32.{_⊘_, f0, f1, f1e-4, f1e-9}
 use Rattle.scalar.specs.Extremes.{clampOf}
@@ -17,8 +17,11 @@ use Rattle.quad.specs.Quad.{edge1, edge2, spanned}
 abbrev pub along : Vec3 → Vec3 → Float
 along d e = vdot d e ⊘ vdot e e
 
+unfoldable pub within : Vec3 → Vec3 → Bool
+within d e = between f0 (along d e) f1
+
 unfoldable pub insideOf : Quad → Vec3 → Float → Crossing
-insideOf q p t = cond (between f0 (along p (edge1 q)) f1 && between f0 (along p (edge2 q)) f1) (At t) Apart
+insideOf q p t = cond (within p (edge1 q) && within p (edge2 q)) (At t) Apart
 
 unfoldable pub aheadOf : Quad → Vec3 → Vec3 → Float → Crossing
 aheadOf q ro rd t = cond (lt t f1e-4) Apart (insideOf q (vsub (vadd ro (vscale rd t)) (q .v0)) t)

@@ -1,7 +1,7 @@
 // Four corners in space: a panel's centre, normal and area, where a ray meets it, and its point nearest to another.
 ghost use mathlib.Core.Path.{_≡_};
 ghost use Rattle.quad.specs.Quad.{spanned, centerOf, normalOf, areaOf};
-ghost use Rattle.quad.specs.Meets.{insideOf, aheadOf, intersectOf, closestOf};
+ghost use Rattle.quad.specs.Meets.{within, insideOf, aheadOf, intersectOf, closestOf};
 use vec::Vec3;
 
 // Corners counter-clockwise, seen from the emitting side; they need not lie in one plane.
@@ -16,6 +16,13 @@ pub struct Quad {
 pub enum Crossing {
     Apart,
     At(f32),
+}
+
+// Whether p, seen from an edge's start, lies along the edge e.
+fn within(p: Vec3, e: Vec3) -> bool
+    ensures { λ r. ⌜ r ≡ within p e ⌝ }
+{
+    scalar::between(0.0, p.dot(e) / e.dot(e), 1.0)
 }
 
 impl Quad {
@@ -59,8 +66,8 @@ impl Quad {
         let v3 = self.v3;
         let e1 = v1.sub(self.v0);
         let e2 = v3.sub(self.v0);
-        if scalar::between(0.0, p.dot(e1) / e1.dot(e1), 1.0) {
-            if scalar::between(0.0, p.dot(e2) / e2.dot(e2), 1.0) {
+        if within(p, e1) {
+            if within(p, e2) {
                 return Crossing::At(t);
             }
         }

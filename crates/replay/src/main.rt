@@ -14,7 +14,11 @@ fn call(which: u32, args: &[u8], out: &mut [u8]) -> u32 {
         0 => viewer::viewer_root(args, out),
         1 => viewer::viewer_acos(args, out),
         2 => viewer::viewer_prim_dist(args, out),
-        _ => viewer::viewer_prim_bounds(args, out),
+        3 => viewer::viewer_prim_bounds(args, out),
+        4 => viewer::viewer_form_factor(args, out),
+        5 => viewer::viewer_fresnel(args, out),
+        6 => viewer::viewer_f0(args, out),
+        _ => viewer::viewer_diffuse_albedo(args, out),
     }
 }
 

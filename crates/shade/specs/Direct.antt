@@ -2,7 +2,6 @@
 -- list of lights; counts are summed. Definitions only.
 use Prim.Native.Nat.{ℕ, _+_, min}
 use mathlib.Core.List.{List, [], _∷_}
-use lib.Ieee.{Float}
 use Rattle.scalar.specs.F32.{_⊗_, f0}
 use Rattle.vec.specs.declared.Vec3.{Vec3}
 use Rattle.vec.specs.Vec.{vsplat, vadd, vsub, vmul, vscale}
@@ -11,16 +10,17 @@ use Rattle.plan.specs.declared.QuadLight.{QuadLight}
 use Rattle.plan.specs.Sections.{lights}
 use Rattle.plan.specs.Plan.{countOf}
 use Rattle.trace.specs.Trace.{Field}
-use Rattle.shade.specs.declared.Panel.{Panel}
-use Rattle.shade.specs.declared.Site.{Site}
-use Rattle.shade.specs.declared.Sight.{Sight}
-use Rattle.shade.specs.declared.View.{View}
-use Rattle.shade.specs.declared.Reach.{Reach}
-use Rattle.shade.specs.declared.Reach.the-variants.{Shut, Open}
+use Rattle.panel.specs.declared.Panel.{Panel}
+use Rattle.reach.specs.declared.Site.{Site}
+use Rattle.reach.specs.declared.Sight.{Sight}
+use Rattle.lobe.specs.declared.View.{View}
+use Rattle.reach.specs.declared.Reach.{Reach}
+use Rattle.reach.specs.declared.Reach.the-variants.{Shut, Open}
 use Rattle.shade.specs.declared.Lit.{Lit}
-use Rattle.shade.specs.Panels.{panelOf, siteOf}
-use Rattle.shade.specs.Reach.{reachOf}
-use Rattle.shade.specs.Lobe.{viewOf, repOf, glossOf}
+use Rattle.panel.specs.Panels.{panelOf}
+use Rattle.reach.specs.Reach.{siteOf}
+use Rattle.reach.specs.Reach.{reachOf}
+use Rattle.lobe.specs.Lobe.{viewOf, repOf, glossOf}
 
 -- `out` stays where a panel does not reach; else `shine` adds to it
 abbrev pub litBy : (Sight → Vec3) → Vec3 → Reach → Lit
@@ -32,8 +32,8 @@ unfoldable pub diffuseStep : Field → Site → Vec3 → Vec3 → QuadLight → 
 diffuseStep field s albedo out l =
     litBy (λ (g : Sight). vadd out (vscale (vmul albedo (l .emit)) (g .ff ⊗ g .vis))) out (reachOf field s (panelOf l))
 
--- the diffuse part, then the lobe
-abbrev pub shone : Site → View → Panel → Vec3 → Sight → Vec3
+-- `out` with the light of the panel a that is seen so: the diffuse part, then the lobe
+unfoldable pub shone : Site → View → Panel → Vec3 → Sight → Vec3
 shone s w a out g =
     let radiance = vscale (a .emit) (g .vis) in
     glossOf w (s .n) (vsub (repOf s (w .v) a) (s .p)) (g .radius) radiance

@@ -1,126 +1,26 @@
-// Direct light from a plan's panels at a point of a surface: the exact diffuse part, one shadow a panel, and a lobe
-// about a representative point; and the panel that a ray meets.
+// Direct light from a plan's panels at a point of a surface: the exact diffuse part, and a lobe.
 ghost use mathlib.Core.Path.{_≡_};
 ghost use lib.ListN.{take};
 ghost use Rattle.plan.specs.Sections.{lights};
 ghost use Rattle.plan.specs.Plan.{planOf};
 ghost use Rattle.bvh_search.specs.Field.{fieldBy};
-ghost use Rattle.shade.specs.Panels.{panelOf, siteOf, culledOf, radiusOf, atLightNumber, panelsNumber};
-ghost use Rattle.shade.specs.Reach.{shadowAt, reachOf};
-ghost use Rattle.shade.specs.Lobe.{viewOf, mirrorOf, towardOf, repOf, wideOf, lobeOf, glossOf};
-ghost use Rattle.shade.specs.Direct.{diffuseStep, directStep, directDiffuseOf, directOf, panelsIn};
-ghost use Rattle.shade.specs.Emitter.{nearerThan, showsOf, emitterStep};
-use ltc::Frame;
+ghost use Rattle.panel.specs.Panels.{panelsNumber};
+ghost use Rattle.shade.specs.Direct.{diffuseStep, shone, directStep, directDiffuseOf, directOf, panelsIn};
+use lobe::View;
+use panel::Panel;
 use plan::Floats;
 use plan::Material;
 use plan::QuadLight;
 use plan::Words;
-use quad::Crossing;
-use quad::Quad;
-use trace::Shadow;
+use reach::Reach;
+use reach::Sight;
+use reach::Site;
 use vec::Vec3;
-
-// A light as shading uses it.
-pub struct Panel {
-    pub quad: Quad,
-    pub center: Vec3,
-    pub normal: Vec3,
-    pub emit: Vec3,
-}
-
-// A point of a surface with its normal, and the frame about that.
-pub struct Site {
-    pub p: Vec3,
-    pub n: Vec3,
-    pub frame: Frame,
-}
-
-// How much of a panel a site sees: its share of the hemisphere, what no shadow takes, and the panel's radius.
-pub struct Sight {
-    pub ff: f32,
-    pub vis: f32,
-    pub radius: f32,
-}
-
-// Whether a panel reaches a site, and the evaluations that its shadow took.
-pub enum Reach {
-    Shut(u32),
-    Open(Sight, u32),
-}
-
-// A view of a surface: the cosine, the lobe's width, and the shares of the lobe and of the rest.
-pub struct View {
-    pub v: Vec3,
-    pub n_dot_v: f32,
-    pub alpha: f32,
-    pub f0: Vec3,
-    pub kd: Vec3,
-}
 
 // Light sent back, and the evaluations that it took.
 pub struct Lit {
     pub light: Vec3,
     pub count: u32,
-}
-
-// The panel that a ray meets first on its emitting side.
-pub enum Emitted {
-    Nothing,
-    Shows(f32, Vec3),
-}
-
-pub fn panel_of(l: QuadLight) -> Panel
-    ensures { λ r. ⌜ r ≡ panelOf l ⌝ }
-{
-    let q = Quad {
-        v0: l.v0,
-        v1: l.v1,
-        v2: l.v2,
-        v3: l.v3,
-    };
-    Panel {
-        quad: q,
-        center: q.center(),
-        normal: q.normal(),
-        emit: l.emit,
-    }
-}
-
-fn site_of(p: Vec3, n: Vec3) -> Site
-    ensures { λ r. ⌜ r ≡ siteOf p n ⌝ }
-{
-    Site {
-        p,
-        n,
-        frame: ltc::frame(n),
-    }
-}
-
-// Whether the panel faces away from a point that `to_light` leads from.
-fn culled(a: Panel, to_light: Vec3) -> bool
-    ensures { λ r. ⌜ r ≡ culledOf a to-light ⌝ }
-{
-    let normal = a.normal;
-    normal.dot(to_light.normalize().neg()) <= 0.0
-}
-
-fn radius_of(a: Panel) -> f32
-    ensures { λ r. ⌜ r ≡ radiusOf a ⌝ }
-{
-    let quad = a.quad;
-    scalar::max(root::root(quad.area() / 3.14159274), 0.0001)
-}
-
-// 9 where the panel's centre is at p by the computed length.
-fn at_light_number(p: Vec3, l: QuadLight) -> u32
-    ensures { λ r. ⌜ r ≡ atLightNumber p l ⌝ }
-{
-    let a = panel_of(l);
-    let center = a.center;
-    if center.sub(p).length() == 0.0 {
-        return refusals::AT_LIGHT;
-    }
-    0
 }
 
 // How many lights are gone through: no more than a plan may have.
@@ -139,58 +39,10 @@ pub fn panels_number(ws: &Words, fs: &Floats, p: Vec3) -> u32
     let mut number: u32 = 0;
     let mut j: u32 = 0;
     while j < n {
-        number = refusals::lower(number, at_light_number(p, plan::light_in(fs, j)));
+        number = refusals::lower(number, panel::at_light_number(p, plan::light_in(fs, j)));
         j += 1;
     }
     number
-}
-
-// One cone, as tight as the panel is small; it ends more than a radius short of the panel.
-fn shadow_at(tree: u32, ws: &Words, fs: &Floats, s: Site, to_light: Vec3, radius: f32) -> Shadow
-    ensures { λ r. ⌜ r ≡ shadowAt (fieldBy tree (now (ws .entry)) (now (fs .entry))) s to-light radius ⌝ }
-{
-    let dist = to_light.length();
-    let k = scalar::clamp(dist / radius, 1.5, 96.0);
-    let end = scalar::max(dist - radius * 1.25, 0.05);
-    let p = s.p;
-    let n = s.n;
-    trace::soft_shadow(
-        tree,
-        ws,
-        fs,
-        p.add(n.scale(0.003)),
-        to_light.over(dist),
-        0.015,
-        end,
-        k,
-    )
-}
-
-fn reach(tree: u32, ws: &Words, fs: &Floats, s: Site, a: Panel) -> Reach
-    ensures { λ r. ⌜ r ≡ reachOf (fieldBy tree (now (ws .entry)) (now (fs .entry))) s a ⌝ }
-{
-    let center = a.center;
-    let to_light = center.sub(s.p);
-    if culled(a, to_light) {
-        return Reach::Shut(0);
-    }
-    let ff = ltc::quad_form_factor(ltc::to_local(a.quad, s.p, s.frame, s.n));
-    if ff <= 0.000001 {
-        return Reach::Shut(0);
-    }
-    let radius = radius_of(a);
-    let shadow = shadow_at(tree, ws, fs, s, to_light, radius);
-    if shadow.vis <= 0.0001 {
-        return Reach::Shut(shadow.count);
-    }
-    Reach::Open(
-        Sight {
-            ff,
-            vis: shadow.vis,
-            radius,
-        },
-        shadow.count,
-    )
 }
 
 // One panel's diffuse light, added to `out`, and the evaluations that it took.
@@ -205,7 +57,7 @@ fn diffuse_step(
 ) -> Lit
     ensures { λ r. ⌜ r ≡ diffuseStep (fieldBy tree (now (ws .entry)) (now (fs .entry))) s albedo out l ⌝ }
 {
-    match reach(tree, ws, fs, s, panel_of(l)) {
+    match reach::reach_of(tree, ws, fs, s, panel::panel_of(l)) {
         Reach::Shut(count) => Lit { light: out, count },
         Reach::Open(sight, count) => Lit {
             light: out.add(albedo.mul(l.emit).scale(sight.ff * sight.vis)),
@@ -218,7 +70,7 @@ pub fn direct_diffuse(tree: u32, ws: &Words, fs: &Floats, p: Vec3, n: Vec3, albe
     ensures { λ r. ⌜ r ≡ directDiffuseOf (fieldBy tree (now (ws .entry)) (now (fs .entry)))
         (take (lights .most) (planOf (now (ws .entry)) (now (fs .entry)) .lights)) p n albedo ⌝ }
 {
-    let s = site_of(p, n);
+    let s = reach::site_of(p, n);
     let most = panels_in(ws);
     let mut light = Vec3::splat(0.0);
     let mut count: u32 = 0;
@@ -232,108 +84,35 @@ pub fn direct_diffuse(tree: u32, ws: &Words, fs: &Floats, p: Vec3, n: Vec3, albe
     Lit { light, count }
 }
 
-fn view_of(n: Vec3, v: Vec3, m: Material) -> View
-    ensures { λ r. ⌜ r ≡ viewOf n v m ⌝ }
+// `out` with the light of the panel a that is seen so: the diffuse part, then the lobe.
+fn shone(s: Site, w: View, a: Panel, out: Vec3, g: Sight) -> Vec3
+    ensures { λ r. ⌜ r ≡ shone s w a out g ⌝ }
 {
-    View {
-        v,
-        n_dot_v: scalar::max(n.dot(v), 0.0001),
-        alpha: scalar::max(m.roughness * m.roughness, 0.001),
-        f0: bsdf::f0_of(m.albedo, m.metallic),
-        kd: bsdf::diffuse_albedo(m.albedo, m.metallic),
-    }
-}
-
-// The view mirrored in the surface.
-fn mirror(n: Vec3, v: Vec3) -> Vec3
-    ensures { λ r. ⌜ r ≡ mirrorOf n v ⌝ }
-{
-    let back = v.neg();
-    back.sub(n.scale(2.0 * n.dot(back)))
-}
-
-// The panel's point nearest to where the mirrored view r meets its plane at t, where that lies ahead.
-fn toward(p: Vec3, a: Panel, r: Vec3, t: f32) -> Vec3
-    ensures { λ x. ⌜ x ≡ towardOf p a r t ⌝ }
-{
-    if t > 0.0 {
-        let quad = a.quad;
-        return quad.closest(p.add(r.scale(t)));
-    }
-    a.center
-}
-
-// The representative point of a panel.
-fn rep(s: Site, v: Vec3, a: Panel) -> Vec3
-    ensures { λ r. ⌜ r ≡ repOf s v a ⌝ }
-{
-    let r = mirror(s.n, v);
-    let denom = r.dot(a.normal);
-    if scalar::abs(denom) > 0.000001 {
-        let quad = a.quad;
-        let v0 = quad.v0;
-        return toward(s.p, a, r, v0.sub(s.p).dot(a.normal) / denom);
-    }
-    a.center
-}
-
-// The lobe's width, widened by a panel so large at such a distance.
-fn wide(alpha: f32, radius: f32, dist: f32) -> f32
-    ensures { λ r. ⌜ r ≡ wideOf alpha radius dist ⌝ }
-{
-    scalar::clamp(
-        alpha + radius / (2.0 * scalar::max(dist, 0.0001)),
-        alpha,
-        1.0,
+    let emit = a.emit;
+    let radiance = emit.scale(g.vis);
+    let kd = w.kd;
+    let matt = out.add(kd.mul(radiance).scale(g.ff));
+    lobe::gloss(
+        w,
+        s.n,
+        lobe::rep(s, w.v, a).sub(s.p),
+        g.radius,
+        radiance,
+        matt,
     )
 }
 
-// The lobe about the direction l, with the cosine n_dot_l and the width `wide`.
-fn lobe(w: View, n: Vec3, l: Vec3, n_dot_l: f32, wide: f32) -> Vec3
-    ensures { λ r. ⌜ r ≡ lobeOf w n l n-dot-l wide ⌝ }
-{
-    let energy = w.alpha / wide * (w.alpha / wide);
-    let h = l.add(w.v).normalize();
-    let d = bsdf::d_ggx(scalar::max(n.dot(h), 0.0), wide);
-    let vis = bsdf::v_smith(w.n_dot_v, n_dot_l, wide);
-    let f = bsdf::fresnel_schlick(scalar::max(l.dot(h), 0.0), w.f0);
-    f.scale(d * vis * energy * n_dot_l)
-}
-
-// `out` with the lobe toward `to_rep`; none where that has no length or lies behind.
-fn gloss(w: View, n: Vec3, to_rep: Vec3, radius: f32, radiance: Vec3, out: Vec3) -> Vec3
-    ensures { λ r. ⌜ r ≡ glossOf w n to-rep radius radiance out ⌝ }
-{
-    let dist = to_rep.length();
-    if dist == 0.0 {
-        return out;
-    }
-    let l = to_rep.normalize();
-    let n_dot_l = n.dot(l);
-    if n_dot_l <= 0.0 {
-        return out;
-    }
-    out.add(lobe(w, n, l, n_dot_l, wide(w.alpha, radius, dist)).mul(radiance))
-}
-
-// One panel's light, added to `out`: the diffuse part, then the lobe.
+// One panel's light, added to `out`, and the evaluations that it took.
 fn direct_step(tree: u32, ws: &Words, fs: &Floats, s: Site, w: View, out: Vec3, l: QuadLight) -> Lit
     ensures { λ r. ⌜ r ≡ directStep (fieldBy tree (now (ws .entry)) (now (fs .entry))) s w out l ⌝ }
 {
-    let a = panel_of(l);
-    match reach(tree, ws, fs, s, a) {
+    let a = panel::panel_of(l);
+    match reach::reach_of(tree, ws, fs, s, a) {
         Reach::Shut(count) => Lit { light: out, count },
-        Reach::Open(sight, count) => {
-            let emit = l.emit;
-            let radiance = emit.scale(sight.vis);
-            let kd = w.kd;
-            let matt = out.add(kd.mul(radiance).scale(sight.ff));
-            let to_rep = rep(s, w.v, a).sub(s.p);
-            Lit {
-                light: gloss(w, s.n, to_rep, sight.radius, radiance, matt),
-                count,
-            }
-        }
+        Reach::Open(sight, count) => Lit {
+            light: shone(s, w, a, out, sight),
+            count,
+        },
     }
 }
 
@@ -341,8 +120,8 @@ pub fn direct(tree: u32, ws: &Words, fs: &Floats, p: Vec3, n: Vec3, v: Vec3, m: 
     ensures { λ r. ⌜ r ≡ directOf (fieldBy tree (now (ws .entry)) (now (fs .entry)))
         (take (lights .most) (planOf (now (ws .entry)) (now (fs .entry)) .lights)) p n v m ⌝ }
 {
-    let s = site_of(p, n);
-    let w = view_of(n, v, m);
+    let s = reach::site_of(p, n);
+    let w = lobe::view_of(n, v, m);
     let most = panels_in(ws);
     let mut light = Vec3::splat(0.0);
     let mut count: u32 = 0;
@@ -354,43 +133,4 @@ pub fn direct(tree: u32, ws: &Words, fs: &Floats, p: Vec3, n: Vec3, v: Vec3, m: 
         j += 1;
     }
     Lit { light, count }
-}
-
-fn nearer_than(best: Emitted, t: f32) -> bool
-    ensures { λ r. ⌜ r ≡ nearerThan best t ⌝ }
-{
-    match best {
-        Emitted::Nothing => true,
-        Emitted::Shows(bt, _emit) => t < bt,
-    }
-}
-
-// Whether the panel shows at t: before the ray's end, on its emitting side, and nearer than the best.
-fn shows(best: Emitted, a: Panel, rd: Vec3, tmax: f32, t: f32) -> bool
-    ensures { λ r. ⌜ r ≡ showsOf best a rd tmax t ⌝ }
-{
-    if t < tmax {
-        let normal = a.normal;
-        if normal.dot(rd) < 0.0 {
-            return nearer_than(best, t);
-        }
-    }
-    false
-}
-
-// The best so far, or the light l where it shows and is nearer.
-pub fn emitter_step(best: Emitted, l: QuadLight, ro: Vec3, rd: Vec3, tmax: f32) -> Emitted
-    ensures { λ r. ⌜ r ≡ emitterStep ro rd tmax best l ⌝ }
-{
-    let a = panel_of(l);
-    let quad = a.quad;
-    match quad.intersect(ro, rd) {
-        Crossing::Apart => best,
-        Crossing::At(t) => {
-            if shows(best, a, rd, tmax, t) {
-                return Emitted::Shows(t, l.emit);
-            }
-            best
-        }
-    }
 }

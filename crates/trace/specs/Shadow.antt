@@ -49,11 +49,11 @@ abbrev pub passAt : Field → Vec3 → Vec3 → Float → Cone → Passed
 passAt field ro rd k c = passedOf c (field (pointAt ro rd (c .t)) .d) k
 
 -- a march with so many evaluations left, after `made`; the end is tested before each
-unfoldable pub cone : Field → Vec3 → Vec3 → Float → Float → ℕ → Cone → ℕ → Shadow
-cone field ro rd tmax k zero c made = seenOf (c .res) made
-cone field ro rd tmax k (suc left) c made =
+unfoldable pub coneMarch : Field → Vec3 → Vec3 → Float → Float → ℕ → Cone → ℕ → Shadow
+coneMarch field ro rd tmax k zero c made = seenOf (c .res) made
+coneMarch field ro rd tmax k (suc left) c made =
     cond (lt (c .t) tmax)
-    (pass (record { vis = f0; count = suc made }) (λ (next : Cone). cone field ro rd tmax k left next (suc made))
+    (pass (record { vis = f0; count = suc made }) (λ (next : Cone). coneMarch field ro rd tmax k left next (suc made))
     (passAt field ro rd k c))
     (seenOf (c .res) made)
 
@@ -61,4 +61,4 @@ abbrev pub coneFrom : Float → Cone
 coneFrom tmin = record { res = f1; ph = f1e20; t = tmin }
 
 unfoldable pub shadowOf : Field → Vec3 → Vec3 → Float → Float → Float → Shadow
-shadowOf field ro rd tmin tmax k = cone field ro rd tmax k shadowMost (coneFrom tmin) 0
+shadowOf field ro rd tmin tmax k = coneMarch field ro rd tmax k shadowMost (coneFrom tmin) 0

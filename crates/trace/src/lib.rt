@@ -101,7 +101,7 @@ pub fn trace(tree: u32, ws: &Words, fs: &Floats, ro: Vec3, rd: Vec3, tmin: f32, 
 }
 
 // Receding, the nearest was the sample before.
-fn gap(h: f32, ph: f32) -> Gap
+fn gap_of(h: f32, ph: f32) -> Gap
     ensures { λ r. ⌜ r ≡ gapOf h ph ⌝ }
 {
     if h < ph {
@@ -118,11 +118,11 @@ fn gap(h: f32, ph: f32) -> Gap
 fn darker(c: Cone, h: f32, k: f32) -> f32
     ensures { λ r. ⌜ r ≡ darkerOf c h k ⌝ }
 {
-    let g = gap(h, c.ph);
+    let g = gap_of(h, c.ph);
     scalar::min(c.res, k * g.d / scalar::max(c.t - g.y, 0.0001))
 }
 
-fn passed(c: Cone, h: f32, k: f32) -> Passed
+fn passed_of(c: Cone, h: f32, k: f32) -> Passed
     ensures { λ r. ⌜ r ≡ passedOf c h k ⌝ }
 {
     if h < 0.0001 {
@@ -161,7 +161,7 @@ pub fn soft_shadow(
         if c.t < tmax {
             let h = bvh_search::field(tree, ws, fs, point_at(ro, rd, c.t));
             steps += 1;
-            match passed(c, h.d, k) {
+            match passed_of(c, h.d, k) {
                 Passed::Dark => return Shadow {
                     vis: 0.0,
                     count: steps,

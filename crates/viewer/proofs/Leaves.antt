@@ -15,8 +15,8 @@ use Rattle.bvh_build.specs.Tables.{sizeOf}
 use Rattle.reply.specs.declared.Reply.{Reply}
 use Rattle.reply.specs.Reply.{refusedReply, doneReply, oneWord, replyOf}
 use Rattle.wire.specs.Sent.{storedPlan, storedTable, cleared, Sent}
-use Rattle.bemitondry.specs.Entries.{EntersTable}
-use Rattle.bemitondry.specs.Trees.{buildNumber, BuildLeaves, offerNumber, judgedTree, sizeIn, OfferLeaves}
+use Rattle.bemitondry_entry.specs.Entries.{EntersTable}
+use Rattle.bemitondry_tree.specs.Trees.{buildNumber, BuildLeaves, offerNumber, judgedTree, sizeIn, OfferLeaves}
 use Rattle.viewer.specs.Entries.{EntrySent}
 use Rattle.viewer.specs.Trees.{buildStores, BuildOn, OfferOn}
 use Rattle.viewer.proofs.Lent.{sent-as}

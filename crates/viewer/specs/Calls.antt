@@ -6,11 +6,15 @@ use lib.Ieee.{Float}
 use Rattle.sdf.specs.declared.Shape.{Shape}
 use Rattle.words.specs.Words.{wordAt}
 use Rattle.refusals.specs.Prims.{shapeOf}
+use Rattle.plan.specs.declared.Material.{Material}
 use Rattle.plan.specs.Plan.{seen}
+use Rattle.quad.specs.declared.Quad.{Quad}
 use Rattle.reply.specs.declared.Reply.{Reply}
 use Rattle.wire.specs.Lent.{lentOf, givenFloat, givenVec, askTable}
 use Rattle.wire.specs.Sent.{argsBefore, askBefore}
 use Rattle.bemitondry_values.specs.Values.{rootReply, acosReply, primDistReply, primBoundsReply}
+use Rattle.bemitondry_emitter.specs.Emitter.{emitterReply}
+use Rattle.bemitondry_values.specs.Light.{formFactorReply, fresnelReply, f0Reply, diffuseAlbedoReply}
 
 -- ---- calls on arguments alone; out is the length of `out`
 unfoldable pub rootLent : List ℕ → ℕ → Reply
@@ -31,6 +35,32 @@ primDistLent args out =
 unfoldable pub primBoundsLent : List ℕ → ℕ → Reply
 primBoundsLent args out =
     primBoundsReply (argsBefore 36 (length args) out) (wordAt (lentOf args 36) 0) (givenShape (lentOf args 36))
+
+-- four corners, and a material
+abbrev pub givenQuad : List ℕ → Quad
+givenQuad a = record { v0 = givenVec a 0; v1 = givenVec a 3; v2 = givenVec a 6; v3 = givenVec a 9 }
+
+unfoldable pub givenMaterial : List ℕ → Material
+givenMaterial a = record { albedo = givenVec a 0; roughness = givenFloat a 3; metallic = givenFloat a 4 }
+
+unfoldable pub formFactorLent : List ℕ → ℕ → Reply
+formFactorLent args out = formFactorReply (argsBefore 48 (length args) out) (givenQuad (lentOf args 48))
+
+unfoldable pub fresnelLent : List ℕ → ℕ → Reply
+fresnelLent args out =
+    fresnelReply (argsBefore 16 (length args) out) (givenFloat (lentOf args 16) 0) (givenVec (lentOf args 16) 1)
+
+unfoldable pub f0Lent : List ℕ → ℕ → Reply
+f0Lent args out = f0Reply (argsBefore 20 (length args) out) (givenMaterial (lentOf args 20))
+
+unfoldable pub diffuseAlbedoLent : List ℕ → ℕ → Reply
+diffuseAlbedoLent args out = diffuseAlbedoReply (argsBefore 20 (length args) out) (givenMaterial (lentOf args 20))
+
+-- lights are records of fifteen words
+unfoldable pub emitterLent : List ℕ → List ℕ → ℕ → Reply
+emitterLent lights args out =
+    emitterReply (argsBefore 28 (length args) out) lights (givenVec (lentOf args 28) 0) (givenVec (lentOf args 28) 3)
+    (givenFloat (lentOf args 28) 6)
 
 -- ---- calls that ask by the tree or by the list: what applies before, `tree`, the table as words and as floats
 abbrev pub Ask : Type 0

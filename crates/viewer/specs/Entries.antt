@@ -13,7 +13,7 @@ use Rattle.plan_entry.specs.Entry.{withMaterialWords, withLightWords}
 use Rattle.reply.specs.Reply.{oneWord, replyOf}
 use Rattle.wire.specs.Lent.{planTable, nodesBytes, orderBytes}
 use Rattle.wire.specs.Sent.{planBefore, treeTablesBefore, cleared, Sent}
-use Rattle.bemitondry.specs.Entries.{materialEntry, lightEntry, pieceEntry, pieceLeft}
+use Rattle.bemitondry_entry.specs.Entries.{materialEntry, lightEntry, pieceEntry, pieceLeft}
 
 -- the number of what entered is sent, and the plan's words of the table `left` are stored, where the number is 0
 pub record EntrySent (number index : ℕ) (left plan out : List ℕ) (n : ℕ) (plan′ out′ : List ℕ) : Type 0 where

@@ -13,8 +13,8 @@ use Rattle.bvh_build.specs.Tables.{sizeOf, nodesWith, orderWith}
 use Rattle.reply.specs.Reply.{oneWord, replyOf}
 use Rattle.wire.specs.Lent.{planTable, askTable}
 use Rattle.wire.specs.Sent.{tablesBefore, treeTablesBefore, Sent}
-use Rattle.bemitondry.specs.Trees.{noNodes, noOrder, buildNumber, offerNumber}
-use Rattle.bemitondry.specs.Trees.{judgedTree, sizeIn, offeredNodes, offeredOrder}
+use Rattle.bemitondry_tree.specs.Trees.{noNodes, noOrder, buildNumber, offerNumber}
+use Rattle.bemitondry_tree.specs.Trees.{judgedTree, sizeIn, offeredNodes, offeredOrder}
 
 -- "a build that ends in 7 leaves node and order tables all zero"
 unfoldable pub buildStores : ℕ → Bool

@@ -3,10 +3,16 @@
 ghost use mathlib.Core.Path.{_≡_};
 ghost use lib.ListN.{length};
 ghost use Rattle.wire.specs.Sent.{Sent};
-ghost use Rattle.bemitondry.specs.Calls.{queryReply, distMatReply};
+ghost use Rattle.bemitondry_ask.specs.Asks.{queryReply, distMatReply};
+ghost use Rattle.bemitondry_ask.specs.Marches.{traceReply, shadowReply};
+ghost use Rattle.bemitondry_light.specs.Light.{directReply, directDiffuseReply};
 ghost use Rattle.viewer.specs.Calls.{rootLent, acosLent, primDistLent, primBoundsLent, askReply};
+ghost use Rattle.viewer.specs.Calls.{formFactorLent, fresnelLent, givenMaterial, f0Lent, diffuseAlbedoLent};
+ghost use Rattle.viewer.specs.Calls.{emitterLent};
 ghost use Rattle.viewer.specs.Entries.{MaterialSent, LightSent, PlaneSent, ObjectSent};
 ghost use Rattle.viewer.specs.Trees.{buildStores, BuildSent, OfferSent};
+use plan::Material;
+use quad::Quad;
 
 #[no_mangle]
 pub extern "C" fn viewer_root(args: &[u8], out: &mut [u8]) -> u32
@@ -67,6 +73,84 @@ pub extern "C" fn viewer_prim_bounds(args: &[u8], out: &mut [u8]) -> u32
 }
 
 #[no_mangle]
+pub extern "C" fn viewer_form_factor(args: &[u8], out: &mut [u8]) -> u32
+    ensures { λ n.
+        ⌜ Sent (formFactorLent (now (args .entry)) (length (now (out .entry)))) (now (out .entry)) n
+        (now (out .exit)) ⌝ }
+{
+    let n = wire::args_before(48, args.len(), out.len());
+    let a = wire::lent(args, 48);
+    let q = Quad {
+        v0: wire::vec_at(a, 0),
+        v1: wire::vec_at(a, 3),
+        v2: wire::vec_at(a, 6),
+        v3: wire::vec_at(a, 9),
+    };
+    wire::send(bemitondry_values::form_factor(n, q), out)
+}
+
+#[no_mangle]
+pub extern "C" fn viewer_fresnel(args: &[u8], out: &mut [u8]) -> u32
+    ensures { λ n.
+        ⌜ Sent (fresnelLent (now (args .entry)) (length (now (out .entry)))) (now (out .entry)) n (now (out .exit)) ⌝ }
+{
+    let n = wire::args_before(16, args.len(), out.len());
+    let a = wire::lent(args, 16);
+    let r = bemitondry_values::fresnel(n, wire::float_at(a, 0), wire::vec_at(a, 1));
+    wire::send(r, out)
+}
+
+// A material in the arguments.
+fn material_in(a: &[u8]) -> Material
+    ensures { λ r. ⌜ r ≡ givenMaterial (now (a .entry)) ⌝ }
+{
+    Material {
+        albedo: wire::vec_at(a, 0),
+        roughness: wire::float_at(a, 3),
+        metallic: wire::float_at(a, 4),
+    }
+}
+
+#[no_mangle]
+pub extern "C" fn viewer_f0(args: &[u8], out: &mut [u8]) -> u32
+    ensures { λ n.
+        ⌜ Sent (f0Lent (now (args .entry)) (length (now (out .entry)))) (now (out .entry)) n (now (out .exit)) ⌝ }
+{
+    let n = wire::args_before(20, args.len(), out.len());
+    let a = wire::lent(args, 20);
+    wire::send(bemitondry_values::f0(n, material_in(a)), out)
+}
+
+#[no_mangle]
+pub extern "C" fn viewer_diffuse_albedo(args: &[u8], out: &mut [u8]) -> u32
+    ensures { λ n.
+        ⌜ Sent (diffuseAlbedoLent (now (args .entry)) (length (now (out .entry)))) (now (out .entry)) n
+        (now (out .exit)) ⌝ }
+{
+    let n = wire::args_before(20, args.len(), out.len());
+    let a = wire::lent(args, 20);
+    wire::send(bemitondry_values::diffuse_albedo(n, material_in(a)), out)
+}
+
+#[no_mangle]
+pub extern "C" fn viewer_emitter_hit(lights: &[u8], args: &[u8], out: &mut [u8]) -> u32
+    ensures { λ n.
+        ⌜ Sent (emitterLent (now (lights .entry)) (now (args .entry)) (length (now (out .entry)))) (now (out .entry)) n
+        (now (out .exit)) ⌝ }
+{
+    let n = wire::args_before(28, args.len(), out.len());
+    let a = wire::lent(args, 28);
+    let r = bemitondry_emitter::emitter_hit(
+        n,
+        lights,
+        wire::vec_at(a, 0),
+        wire::vec_at(a, 3),
+        wire::float_at(a, 6),
+    );
+    wire::send(r, out)
+}
+
+#[no_mangle]
 pub extern "C" fn viewer_query(
     plan: &[u8],
     nodes: &[u8],
@@ -93,7 +177,7 @@ pub extern "C" fn viewer_query(
         args.len(),
         out.len(),
     );
-    wire::send(bemitondry::query(n, tree, &ws, &fs), out)
+    wire::send(bemitondry_ask::query(n, tree, &ws, &fs), out)
 }
 
 #[no_mangle]
@@ -123,7 +207,127 @@ pub extern "C" fn viewer_dist_mat(
         args.len(),
         out.len(),
     );
-    wire::send(bemitondry::dist_mat(n, tree, &ws, &fs), out)
+    wire::send(bemitondry_ask::dist_mat(n, tree, &ws, &fs), out)
+}
+
+#[no_mangle]
+pub extern "C" fn viewer_trace(
+    plan: &[u8],
+    nodes: &[u8],
+    order: &[u8],
+    tree: u32,
+    args: &[u8],
+    out: &mut [u8],
+) -> u32
+    ensures { λ n.
+        ⌜ Sent
+        (askReply traceReply 32 (now (plan .entry)) (now (nodes .entry)) (now (order .entry)) tree (now (args .entry))
+        (length (now (out .entry))))
+        (now (out .entry)) n (now (out .exit)) ⌝ }
+{
+    let mut ws = [0u32; plan::TABLE];
+    let mut fs = [0.0f32; plan::TABLE];
+    wire::load_ask(32, plan, nodes, order, tree, args, &mut ws, &mut fs);
+    let n = wire::ask_before(
+        32,
+        plan.len(),
+        nodes.len(),
+        order.len(),
+        tree,
+        args.len(),
+        out.len(),
+    );
+    wire::send(bemitondry_ask::trace(n, tree, &ws, &fs), out)
+}
+
+#[no_mangle]
+pub extern "C" fn viewer_soft_shadow(
+    plan: &[u8],
+    nodes: &[u8],
+    order: &[u8],
+    tree: u32,
+    args: &[u8],
+    out: &mut [u8],
+) -> u32
+    ensures { λ n.
+        ⌜ Sent
+        (askReply shadowReply 36 (now (plan .entry)) (now (nodes .entry)) (now (order .entry)) tree (now (args .entry))
+        (length (now (out .entry))))
+        (now (out .entry)) n (now (out .exit)) ⌝ }
+{
+    let mut ws = [0u32; plan::TABLE];
+    let mut fs = [0.0f32; plan::TABLE];
+    wire::load_ask(36, plan, nodes, order, tree, args, &mut ws, &mut fs);
+    let n = wire::ask_before(
+        36,
+        plan.len(),
+        nodes.len(),
+        order.len(),
+        tree,
+        args.len(),
+        out.len(),
+    );
+    wire::send(bemitondry_ask::soft_shadow(n, tree, &ws, &fs), out)
+}
+
+#[no_mangle]
+pub extern "C" fn viewer_direct(
+    plan: &[u8],
+    nodes: &[u8],
+    order: &[u8],
+    tree: u32,
+    args: &[u8],
+    out: &mut [u8],
+) -> u32
+    ensures { λ n.
+        ⌜ Sent
+        (askReply directReply 56 (now (plan .entry)) (now (nodes .entry)) (now (order .entry)) tree (now (args .entry))
+        (length (now (out .entry))))
+        (now (out .entry)) n (now (out .exit)) ⌝ }
+{
+    let mut ws = [0u32; plan::TABLE];
+    let mut fs = [0.0f32; plan::TABLE];
+    wire::load_ask(56, plan, nodes, order, tree, args, &mut ws, &mut fs);
+    let n = wire::ask_before(
+        56,
+        plan.len(),
+        nodes.len(),
+        order.len(),
+        tree,
+        args.len(),
+        out.len(),
+    );
+    wire::send(bemitondry_light::direct(n, tree, &ws, &fs), out)
+}
+
+#[no_mangle]
+pub extern "C" fn viewer_direct_diffuse(
+    plan: &[u8],
+    nodes: &[u8],
+    order: &[u8],
+    tree: u32,
+    args: &[u8],
+    out: &mut [u8],
+) -> u32
+    ensures { λ n.
+        ⌜ Sent
+        (askReply directDiffuseReply 36 (now (plan .entry)) (now (nodes .entry)) (now (order .entry)) tree (now (args .entry))
+        (length (now (out .entry))))
+        (now (out .entry)) n (now (out .exit)) ⌝ }
+{
+    let mut ws = [0u32; plan::TABLE];
+    let mut fs = [0.0f32; plan::TABLE];
+    wire::load_ask(36, plan, nodes, order, tree, args, &mut ws, &mut fs);
+    let n = wire::ask_before(
+        36,
+        plan.len(),
+        nodes.len(),
+        order.len(),
+        tree,
+        args.len(),
+        out.len(),
+    );
+    wire::send(bemitondry_light::direct_diffuse(n, tree, &ws, &fs), out)
 }
 
 #[no_mangle]
@@ -136,7 +340,7 @@ pub extern "C" fn viewer_add_material(plan: &mut [u8], args: &[u8], out: &mut [u
     let mut fs = [0.0f32; plan::TABLE];
     wire::load_plan(20, plan, args, &mut ws, &mut fs);
     let n = wire::plan_before(plan.len(), 20, args.len(), out.len());
-    let r = bemitondry::add_material(n, &mut ws, &fs);
+    let r = bemitondry_entry::add_material(n, &mut ws, &fs);
     wire::store_plan(r.number == 0, &ws, plan);
     wire::send(r, out)
 }
@@ -151,7 +355,7 @@ pub extern "C" fn viewer_add_light(plan: &mut [u8], args: &[u8], out: &mut [u8])
     let mut fs = [0.0f32; plan::TABLE];
     wire::load_plan(60, plan, args, &mut ws, &mut fs);
     let n = wire::plan_before(plan.len(), 60, args.len(), out.len());
-    let r = bemitondry::add_light(n, &mut ws, &fs);
+    let r = bemitondry_entry::add_light(n, &mut ws, &fs);
     wire::store_plan(r.number == 0, &ws, plan);
     wire::send(r, out)
 }
@@ -166,7 +370,7 @@ pub extern "C" fn viewer_add_plane(plan: &mut [u8], args: &[u8], out: &mut [u8])
     let mut fs = [0.0f32; plan::TABLE];
     wire::load_plan(64, plan, args, &mut ws, &mut fs);
     let n = wire::plan_before(plan.len(), 64, args.len(), out.len());
-    let r = bemitondry::add_piece(n, true, &mut ws, &fs, args.len());
+    let r = bemitondry_entry::add_piece(n, true, &mut ws, &fs, args.len());
     wire::store_plan(r.number == 0, &ws, plan);
     wire::send(r, out)
 }
@@ -194,7 +398,7 @@ pub extern "C" fn viewer_add_object(
         args.len(),
         out.len(),
     );
-    let r = bemitondry::add_piece(n, false, &mut ws, &fs, args.len());
+    let r = bemitondry_entry::add_piece(n, false, &mut ws, &fs, args.len());
     wire::store_plan(r.number == 0, &ws, plan);
     wire::clear(r.number == 0, nodes, wire::NODES_BYTES);
     wire::clear(r.number == 0, order, wire::ORDER_BYTES);
@@ -228,7 +432,7 @@ pub extern "C" fn viewer_build(
     let n = wire::tree_tables_before(plan.len(), nodes.len(), order.len(), 0, 0, out.len());
     let mut nw = [0u32; plan::NODES_WORDS];
     let mut ow = [0u32; plan::ORDER_WORDS];
-    let r = bemitondry::build(n, &ws, &fs, &mut nw, &mut ow);
+    let r = bemitondry_tree::build(n, &ws, &fs, &mut nw, &mut ow);
     let stores = build_stores(r.number);
     wire::store_nodes(stores, &nw, nodes);
     wire::store_order(stores, &ow, order);
@@ -258,7 +462,7 @@ pub extern "C" fn viewer_offer(
     );
     let mut nw = [0u32; plan::NODES_WORDS];
     let mut ow = [0u32; plan::ORDER_WORDS];
-    let r = bemitondry::offer(n, &ws, &fs, &mut nw, &mut ow);
+    let r = bemitondry_tree::offer(n, &ws, &fs, &mut nw, &mut ow);
     wire::store_nodes(r.number == 0, &nw, nodes);
     wire::store_order(r.number == 0, &ow, order);
     wire::send(r, out)

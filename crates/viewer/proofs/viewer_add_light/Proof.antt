@@ -2,7 +2,7 @@
 use Rattle.plan.specs.Sections.{lights}
 use Rattle.plan.specs.Plan.{countOf}
 use Rattle.plan_entry.specs.Entry.{withLightWords}
-use Rattle.bemitondry.specs.Entries.{lightEntry}
+use Rattle.bemitondry_entry.specs.Entries.{lightEntry}
 use Rattle.viewer.proofs.Leaves.{entry-sent}
 use borrow.Author.Needs.{needs}
 use Rattle.viewer.proofs.viewer_add_light.Statement.{statement}

@@ -2,7 +2,7 @@
 use Rattle.plan.specs.Sections.{materials}
 use Rattle.plan.specs.Plan.{countOf}
 use Rattle.plan_entry.specs.Entry.{withMaterialWords}
-use Rattle.bemitondry.specs.Entries.{materialEntry}
+use Rattle.bemitondry_entry.specs.Entries.{materialEntry}
 use Rattle.viewer.proofs.Leaves.{entry-sent}
 use borrow.Author.Needs.{needs}
 use Rattle.viewer.proofs.viewer_add_material.Statement.{statement}

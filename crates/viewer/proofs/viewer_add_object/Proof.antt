@@ -4,7 +4,7 @@ use mathlib.Core.Bool.{false}
 use lib.ListN.{length}
 use Rattle.plan.specs.Sections.{objects}
 use Rattle.plan.specs.Plan.{countOf}
-use Rattle.bemitondry.specs.Entries.{pieceEntry, pieceLeft}
+use Rattle.bemitondry_entry.specs.Entries.{pieceEntry, pieceLeft}
 use Rattle.viewer.proofs.Leaves.{entry-sent, entry-clears}
 use borrow.Author.Needs.{needs}
 use Rattle.viewer.proofs.viewer_add_object.Statement.{statement}

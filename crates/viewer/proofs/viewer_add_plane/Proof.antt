@@ -3,7 +3,7 @@ use mathlib.Core.Bool.{true}
 use lib.ListN.{length}
 use Rattle.plan.specs.Sections.{planes}
 use Rattle.plan.specs.Plan.{countOf}
-use Rattle.bemitondry.specs.Entries.{pieceEntry, pieceLeft}
+use Rattle.bemitondry_entry.specs.Entries.{pieceEntry, pieceLeft}
 use Rattle.viewer.proofs.Leaves.{entry-sent}
 use borrow.Author.Needs.{needs}
 use Rattle.viewer.proofs.viewer_add_plane.Statement.{statement}

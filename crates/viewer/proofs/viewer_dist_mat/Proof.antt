@@ -1,5 +1,5 @@
 -- `viewer_dist_mat` meets its contract: what is sent is the call's reply. Assumes nothing.
-use Rattle.bemitondry.specs.Calls.{distMatReply}
+use Rattle.bemitondry_ask.specs.Asks.{distMatReply}
 use Rattle.viewer.proofs.Lent.{ask-sent}
 use borrow.Author.Needs.{needs}
 use Rattle.viewer.proofs.viewer_dist_mat.Statement.{statement}

@@ -1,5 +1,5 @@
 -- `viewer_query` meets its contract: what is sent is the call's reply. Assumes nothing.
-use Rattle.bemitondry.specs.Calls.{queryReply}
+use Rattle.bemitondry_ask.specs.Asks.{queryReply}
 use Rattle.viewer.proofs.Lent.{ask-sent}
 use borrow.Author.Needs.{needs}
 use Rattle.viewer.proofs.viewer_query.Statement.{statement}

@@ -1,2 +1,0 @@
-pub mod Enters
-pub mod Raises

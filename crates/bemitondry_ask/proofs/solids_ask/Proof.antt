@@ -1,0 +1,16 @@
+-- `bemitondry_ask::solids_ask` meets its contract, by those of its calls. Assumes nothing.
+use Rattle.bemitondry_ask.specs.Asks.{solidsAsk}
+use borrow.Author.Needs.{needs}
+use Rattle.bemitondry_ask.proofs.solids_ask.Statement.{statement}
+use Rattle.bemitondry_ask.proofs.solids_ask.Tie as tie
+
+returns : tie.Need-returns
+unfolding solidsAsk
+returns c =
+    cc
+
+pub solids-ask-spec : {M : Type 1} → statement M
+solids-ask-spec =
+    tie.close
+    (tie.spec
+    (λ c κs. search needs) (λ c κs. search needs) (λ c κs. search needs) (λ c κs. search needs) returns)

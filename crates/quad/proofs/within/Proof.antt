@@ -1,0 +1,13 @@
+-- `quad::within` meets its contract: the code's calls are the definition's. Assumes nothing.
+use Rattle.quad.specs.Meets.{within}
+use borrow.Author.Needs.{needs}
+use Rattle.quad.proofs.within.Statement.{statement}
+use Rattle.quad.proofs.within.Tie as tie
+
+returns : tie.Need-returns
+unfolding within
+returns c = cc
+
+pub within-spec : {M : Type 1} → statement M
+within-spec = tie.close (tie.spec
+    (λ c κs. search needs) (λ c κs. search needs) (λ c κs. search needs) returns)

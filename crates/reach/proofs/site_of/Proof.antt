@@ -1,0 +1,13 @@
+-- `reach::site_of` meets its contract, by those of its calls. Assumes nothing.
+use Rattle.reach.specs.Reach.{siteOf}
+use borrow.Author.Needs.{needs}
+use Rattle.reach.proofs.site_of.Statement.{statement}
+use Rattle.reach.proofs.site_of.Tie as tie
+
+returns : tie.Need-returns
+unfolding siteOf
+returns c = cc
+
+pub site-of-spec : {M : Type 1} → statement M
+site-of-spec = tie.close (tie.spec
+    (λ c κs. search needs) returns)

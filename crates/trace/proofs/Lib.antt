@@ -1,0 +1,2 @@
+pub mod Marches
+pub mod Shadows

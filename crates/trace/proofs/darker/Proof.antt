@@ -1,0 +1,12 @@
+-- `trace::darker` meets its contract, by those of its calls. Assumes nothing.
+use Rattle.trace.specs.Shadow.{darkerOf}
+use borrow.Author.Needs.{needs}
+use Rattle.trace.proofs.darker.Statement.{statement}
+use Rattle.trace.proofs.darker.Tie as tie
+
+returns : tie.Need-returns
+unfolding darkerOf
+returns c = cc
+
+pub darker-spec : {M : Type 1} → statement M
+darker-spec = tie.close (tie.spec (λ c κs. search needs) (λ c κs. search needs) (λ c κs. search needs) returns)

@@ -1,0 +1,21 @@
+-- `viewer_direct_diffuse` meets its contract: what is sent is the call's reply. Assumes nothing.
+use Rattle.bemitondry_light.specs.Light.{directDiffuseReply}
+use Rattle.viewer.proofs.Lent.{ask-sent}
+use borrow.Author.Needs.{needs}
+use Rattle.viewer.proofs.viewer_direct_diffuse.Statement.{statement}
+use Rattle.viewer.proofs.viewer_direct_diffuse.Tie as tie
+
+returns : tie.Need-returns
+returns c =
+    let s = c .before .before in
+    let r = s .before .before in
+    let l = r .before .before .before in
+    ask-sent directDiffuseReply 36 _ _ _ _ _ _ _ _ _ _ _ _ (l .before .load-ask .ensures) (l .ask-before .ensures)
+    (r .direct-diffuse .ensures) (s .send .ensures)
+
+pub viewer-direct-diffuse-spec : {M : Type 1} → statement M
+viewer-direct-diffuse-spec =
+    tie.close
+    (tie.spec
+    (λ c κs. search needs) (λ c κs. search needs) (λ c κs. search needs) (λ c κs. search needs)
+    (λ c. search needs) returns)
