@@ -4,6 +4,7 @@ mod bench;
 mod call;
 mod chosen;
 mod draw;
+mod fault;
 mod gate;
 mod judge;
 mod light;

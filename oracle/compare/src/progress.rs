@@ -54,6 +54,19 @@ pub fn through<T>(
     })
 }
 
+/// Things between two looks at the clock, where they are short.
+const SHORT: usize = 1 << 14;
+
+/// Goes through so many short things.
+pub fn through_short(run: &'static str, of: usize, things: &'static str) -> impl Iterator<Item = usize> {
+    let progress = Progress::new(run, of, things);
+    (0..of).inspect(move |i| {
+        if *i > 0 && i % SHORT == 0 {
+            progress.add(SHORT);
+        }
+    })
+}
+
 /// 22288 as 22,288.
 fn grouped(n: usize) -> String {
     match n {

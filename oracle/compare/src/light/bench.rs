@@ -19,9 +19,9 @@ use interflect::scene::Scene;
 use interflect::shade::{direct, direct_diffuse, fresnel_schlick};
 use interflect::trace::{soft_shadow, trace};
 
-/// Places and rays of a loop, all different, and how often it runs.
+/// Places and rays of a loop, all different, and how often it runs: by the list it takes most of a minute.
 const PLACES: usize = 4_096;
-const TURNS: usize = 3;
+const TURNS: [usize; 2] = [1, 4];
 
 /// Form factors and surfaces of a loop: few enough to stay in the cache.
 const INPUTS: usize = 1_024;
@@ -49,17 +49,18 @@ fn march(call: Call, lent: &mut Lent, scene: &Scene) {
     let mut rng = Rng::new(9);
     let inputs: Vec<Vec<u32>> = (0..PLACES).map(|_| args(&mut rng, scene, call)).collect();
     let by = if scene.use_bvh { "tree" } else { "list" };
+    let turns = TURNS[usize::from(scene.use_bvh)];
     let name = format!("{} by {by}", call.name().trim_start_matches("viewer_"));
     // Evaluations made in all turns; the source makes four more on a hit.
     let (mut ours_made, mut theirs_made) = (0, 0);
     let (ours, theirs) = pair_in(
-        TURNS,
+        turns,
         &name,
         &inputs,
         |args| ours_made += ask(lent, call, args),
         |args| theirs_made += asked(scene, call, args),
     );
-    let each = |made: u32| f64::from(made) / (TURNS * PLACES) as f64;
+    let each = |made: u32| f64::from(made) / (turns * PLACES) as f64;
     let rate = |made: u32, nanoseconds: f64| each(made) / nanoseconds * 1e3;
     let (ours_rate, theirs_rate) = (rate(ours_made, ours), rate(theirs_made, theirs));
     println!("    {:.1} evaluations a call; millions a second {ours_rate:.2}, {theirs_rate:.2}", each(ours_made));

@@ -4,6 +4,7 @@
 use super::chosen::{planes, square, with_lights};
 use super::formula;
 use crate::call::{Call, OUT_BYTES};
+use crate::fault::fault;
 use crate::judge::DONE;
 use crate::plan::check::expect;
 use crate::plan::lent::Lent;
@@ -16,7 +17,6 @@ use glam::Vec3;
 use interflect::scene::Material;
 use interflect::{ltc, shade};
 use interflect_formula::differences::met;
-use std::panic::{self, AssertUnwindSafe};
 
 /// Corners below, at, below, at the horizon: the least that makes a sixth.
 const SIX: [f32; 12] = [0.0, 0.0, -1.0, 0.0, 0.0, 0.0, 0.0, 0.0, -1.0, 0.0, 0.0, 0.0];
@@ -33,13 +33,8 @@ pub fn run() -> Result<String, String> {
 }
 
 fn must_fault<T>(what: &str, f: impl FnOnce() -> T) -> Result<(), String> {
-    let said = panic::take_hook();
-    panic::set_hook(Box::new(|_| {}));
-    let fault = panic::catch_unwind(AssertUnwindSafe(f)).err();
-    panic::set_hook(said);
-    let message = fault.as_ref().and_then(|fault| fault.downcast_ref::<String>()).map(String::as_str);
-    match message {
-        Some(FAULT) => Ok(()),
+    match fault(f) {
+        Some(message) if message == FAULT => Ok(()),
         message => Err(format!("{what}: the source as it is says {message:?}")),
     }
 }

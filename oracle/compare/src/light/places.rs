@@ -3,7 +3,7 @@
 
 use crate::call::Call;
 use crate::draw::{fit, within};
-use crate::judge::{ALONG, COORD, NORMAL, ORIGIN, SHARPNESS, UNIT};
+use crate::judge::{Range, ALONG, COORD, NORMAL, ORIGIN, SHARPNESS, UNIT};
 use crate::rng::Rng;
 use crate::words;
 use glam::Vec3;
@@ -35,7 +35,7 @@ fn unit(rng: &mut Rng) -> Vec3 {
     }
 }
 
-fn within_range(v: Vec3, range: crate::judge::Range) -> Vec3 {
+fn within_range(v: Vec3, range: Range) -> Vec3 {
     // What is not a number comes of a way of no length.
     let fit = |x: f32| if x.is_nan() { 0.0 } else { fit(x, range) };
     Vec3::new(fit(v.x), fit(v.y), fit(v.z))

@@ -3,6 +3,7 @@
 use crate::call::{Call, OUT_BYTES};
 use crate::draw::within;
 use crate::judge::{COSINE, DONE, UNIT};
+use crate::progress::through_short;
 use crate::rng::Rng;
 use crate::scalar::check::check;
 use crate::words;
@@ -10,7 +11,7 @@ use crate::words;
 pub fn run(surfaces: usize) -> Result<String, String> {
     let mut rng = Rng::new(62);
     let mut out = [0; OUT_BYTES];
-    for _ in 0..surfaces {
+    for _ in through_short("surfaces", surfaces, "surfaces") {
         let cosine = if rng.one_in(2) { rng.unit() * 1.25 - 0.125 } else { within(&mut rng, COSINE) };
         let words = [0; 5].map(|_| within(&mut rng, UNIT).to_bits());
         let fresnel = [&[cosine.to_bits()], &words[..3]].concat();

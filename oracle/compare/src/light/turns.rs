@@ -5,6 +5,7 @@ use super::chosen::{planes, square, with_lights};
 use crate::call::Call;
 use crate::judge::{AT_CENTRE, DONE};
 use crate::plan::check::check;
+use crate::plan::judge::centre;
 use crate::plan::lent::Lent;
 use crate::plan::model::Plan;
 use crate::words;
@@ -131,7 +132,7 @@ pub fn run() -> Result<String, String> {
 /// Straight from the first panel's back: l + v has no length wherever its centre is the representative point.
 fn minus_l(plan: &Plan, point: &[f32; 3]) -> [f32; 3] {
     let [x, y, z] = *point;
-    let way = crate::plan::judge::centre(&plan.lights[0]) - Vec3::new(x, y, z);
+    let way = centre(&plan.lights[0]) - Vec3::new(x, y, z);
     let l = if way.length() > 0.0 { way.normalize() } else { Vec3::Y };
     [-l.x, -l.y, -l.z]
 }

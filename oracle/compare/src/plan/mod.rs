@@ -13,7 +13,7 @@ pub mod judge;
 pub mod layout;
 mod lengths;
 pub mod lent;
-mod limits;
+pub mod limits;
 pub mod model;
 mod pairs;
 pub mod points;

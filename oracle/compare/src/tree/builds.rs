@@ -3,6 +3,7 @@
 
 use super::{draw, source};
 use crate::call::Call;
+use crate::fault::fault;
 use crate::judge::{DONE, NO_TREE, TOO_DEEP};
 use crate::plan::check::{check, expect};
 use crate::plan::model::Plan;
@@ -12,7 +13,6 @@ use crate::progress::through;
 use crate::rng::Rng;
 use interflect::bvh::Bvh;
 use interflect::scene::{DistHit, Scene};
-use std::panic::{self, AssertUnwindSafe};
 
 #[derive(Default)]
 struct Tally {
@@ -95,14 +95,9 @@ fn no_tree(lent: &mut Lent) -> Result<(), String> {
 
 /// Whether the source's search faults from some object's place: its stack has 64 places.
 fn overruns(scene: &Scene) -> bool {
-    let said = panic::take_hook();
-    panic::set_hook(Box::new(|_| {}));
     let boxes = source::boxes(&scene.objects);
-    let overruns = boxes.iter().any(|own| {
+    boxes.iter().any(|own| {
         let mut best = DistHit { d: f32::MAX, mat: 0 };
-        let search = || scene.bvh.query(own.lo, &scene.objects, &mut best);
-        panic::catch_unwind(AssertUnwindSafe(search)).is_err()
-    });
-    panic::set_hook(said);
-    overruns
+        fault(|| scene.bvh.query(own.lo, &scene.objects, &mut best)).is_some()
+    })
 }

@@ -8,6 +8,7 @@ use crate::chosen::{about, NAN};
 use crate::judge::{Range, ALONG, BAD_WORD, COORD, DONE, NORMAL, NO_EXTENT, NO_ROOM, ORIGIN};
 use crate::plan::judge::EMISSION;
 use crate::plan::layout::LIGHT_WORDS;
+use crate::plan::limits::flat::panels;
 use crate::plan::sound;
 use crate::words;
 
@@ -56,12 +57,10 @@ fn limits() -> Result<usize, String> {
                 count += 1;
             }
         }
-        // The second corner at the first; the fourth at the first; the fourth at the second.
-        for (corner, at) in [(3, 0), (9, 0), (9, 3)] {
+        for (light, number) in panels() {
             let mut lights = lights(many);
-            let light = &mut lights[record * LIGHT_WORDS..];
-            light.copy_within(at..at + 3, corner);
-            hold(&lights, &ray(), NO_EXTENT)?;
+            lights[record * LIGHT_WORDS..][..LIGHT_WORDS].copy_from_slice(&light);
+            hold(&lights, &ray(), number)?;
             count += 1;
         }
     }

@@ -2,7 +2,7 @@
 //! it must get; words that are not read; flat capsules and lights; document 01's P9 and P10.
 
 mod args;
-mod flat;
+pub mod flat;
 mod lights;
 mod pieces;
 mod whole;
