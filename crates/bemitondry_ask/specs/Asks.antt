@@ -1,5 +1,5 @@
--- What a query and a distance get on a loaded table. before is a number that applies already, w and f are a call's table
--- as words and as floats. Definitions only.
+-- What a query and a distance get on a loaded table. before is a number that applies already, w and f are a call's
+-- table as words and as floats. Definitions only.
 use Prim.Native.Nat.{ℕ, _+_, _*_}
 use mathlib.Core.Bool.{Bool, _&&_, cond}
 use mathlib.Core.List.{List}

@@ -311,8 +311,8 @@ pub extern "C" fn viewer_direct_diffuse(
 ) -> u32
     ensures { λ n.
         ⌜ Sent
-        (askReply directDiffuseReply 36 (now (plan .entry)) (now (nodes .entry)) (now (order .entry)) tree (now (args .entry))
-        (length (now (out .entry))))
+        (askReply directDiffuseReply 36 (now (plan .entry)) (now (nodes .entry)) (now (order .entry)) tree
+        (now (args .entry)) (length (now (out .entry))))
         (now (out .entry)) n (now (out .exit)) ⌝ }
 {
     let mut ws = [0u32; plan::TABLE];
