@@ -1,0 +1,54 @@
+-- What lent bytes hold: a plan, and a tree for its objects. Definitions only.
+use Prim.Native.Nat.{ℕ, _≤_}
+use mathlib.Core.List.{List, []}
+use lib.ListN.{length}
+use lib.Ieee.{Float}
+use Rattle.words.specs.Words.{wordsOf, floatsOf}
+use Rattle.plan.specs.Sections.{nodesWords, orderPlaces}
+use Rattle.plan.specs.Plan.{Plan, planIn}
+use Rattle.bvh_boxes.specs.Boxes.{boxesOf}
+use Rattle.bvh_rules.specs.Rules.{Tree, Holds, Accepted, MeetsRules}
+use Rattle.wire.specs.Lent.{planBytes, nodesBytes, orderBytes, planTable}
+
+-- ---- the plan that a call reads, with so many bytes of arguments after it
+abbrev pub planWith : ℕ → List ℕ → List ℕ → Plan
+planWith need plan args = planIn (planTable need plan args)
+
+-- the plan alone: a sound one is the same whatever is lent after it
+abbrev pub planAt : List ℕ → Plan
+planAt plan = planWith 0 plan []
+
+abbrev pub objectCount : List ℕ → ℕ
+objectCount plan = length (planAt plan .objects)
+
+-- ---- a tree's nodes, as words and as floats, and its order
+abbrev pub nodeWords : List ℕ → List ℕ
+nodeWords nodes = wordsOf nodes nodesWords
+
+abbrev pub nodeFloats : List ℕ → List Float
+nodeFloats nodes = floatsOf (nodeWords nodes) nodesWords
+
+abbrev pub orderWords : List ℕ → List ℕ
+orderWords order = wordsOf order orderPlaces
+
+-- the bytes hold the tree t for the plan's objects: by every rule but depth, by every rule
+abbrev pub HoldsTree : List ℕ → List ℕ → List ℕ → Tree → Type 0
+HoldsTree plan nodes order t =
+    Holds (nodeWords nodes) (nodeFloats nodes) (orderWords order) (boxesOf (planAt plan)) t
+
+abbrev pub AcceptedTree : List ℕ → List ℕ → List ℕ → Tree → Type 0
+AcceptedTree plan nodes order t =
+    Accepted (nodeWords nodes) (nodeFloats nodes) (orderWords order) (boxesOf (planAt plan)) t
+
+-- the bytes meet the tree rules: with no objects any do
+abbrev pub TreeRules : List ℕ → List ℕ → List ℕ → Type 0
+TreeRules plan nodes order =
+    MeetsRules (nodeWords nodes) (nodeFloats nodes) (orderWords order) (boxesOf (planAt plan))
+
+-- ---- tables of full size
+abbrev pub FullPlan : List ℕ → Type 0
+FullPlan plan = planBytes ≤ length plan
+
+pub record FullTree (nodes order : List ℕ) : Type 0 where
+  pub nodes-full : nodesBytes ≤ length nodes
+  pub order-full : orderBytes ≤ length order

@@ -1,0 +1,125 @@
+-- "A tree is accepted exactly when it meets document 01's rules; a built tree is turned down for depth only; on an
+-- accepted tree the search never needs a 65th place, its two counts are document 01's, its answer is the least by value
+-- of the starting bound and those distances worked out that are numbers, and every piece passed over lies under a box
+-- worked out to be no nearer than that answer": of the exported calls, on bytes. Definitions only; the theorem is
+-- `demand-three` of proofs/Demand3.antt.
+use Prim.Native.Nat.{ℕ, _<_, _≤_}
+use mathlib.Core.Path.{_≡_}
+use mathlib.Core.Logic.{_↔_, _⊎_}
+use mathlib.Core.Bool.{true}
+use mathlib.Core.List.{List, [], _∷_, map}
+use lib.ListN.{length}
+use Rattle.vec.specs.declared.Vec3.{Vec3}
+use Rattle.words.specs.Lists.{All}
+use Rattle.words.specs.Words.{sentWords}
+use Rattle.refusals.specs.Refusals.{badTree, tooDeep, noTree}
+use Rattle.plan.specs.Sections.{objects}
+use Rattle.plan.specs.Records.{wordOf}
+use Rattle.plan.specs.declared.DistHit.{DistHit}
+use Rattle.plan.specs.Plan.{countOf, seen, planIn}
+use Rattle.plan.specs.Nearest.{nearest, nothing}
+use Rattle.plan_test.specs.Exact.{SoundObjects}
+use Rattle.bvh_boxes.specs.Boxes.{boxesOf}
+use Rattle.bvh_rules.specs.Nodes.{nodesOf, orderOf}
+use Rattle.bvh_rules.specs.Rules.{Tree, size, depth, Accepted}
+use Rattle.bvh_build.specs.Tables.{builtOf}
+use Rattle.bvh_search.specs.declared.Searched.{Searched}
+use Rattle.bvh_search.specs.Search.{searched}
+use Rattle.bvh_search.specs.Field.{fieldBy}
+use Rattle.bvh_search.specs.Demand.{In, Over, Demand}
+use Rattle.reply.specs.declared.Reply.{Reply}
+use Rattle.reply.specs.Reply.{oneWord}
+use Rattle.bemitondry_ask.specs.Asks.{argVec, queryBound, searchedReply, queryReply, distMatReply}
+use Rattle.bemitondry_ask.specs.Marches.{traceReply, shadowReply}
+use Rattle.bemitondry_light.specs.Light.{directReply, directDiffuseReply}
+use Rattle.wire.specs.Lent.{outBytes, askTable}
+use Rattle.wire.specs.Sent.{Sent}
+use Rattle.viewer.specs.Calls.{Ask, askReply}
+use Rattle.viewer.specs.Trees.{BuildSent, OfferSent}
+use Rattle.promises.specs.Bytes.{planAt, objectCount, HoldsTree, AcceptedTree, TreeRules, FullPlan, FullTree}
+
+-- ---- build and offer, which send n and leave nodes′, order′ and out′
+pub record OfferKeeps (plan given ranks out : List ℕ) (n : ℕ) (nodes′ order′ out′ : List ℕ) : Type 0 where
+  pub one : (n ≡ 0) ⊎ ((n ≡ badTree) ⊎ (n ≡ tooDeep))
+  pub taken : (n ≡ 0) ↔ TreeRules plan given ranks
+  pub deep : (n ≡ tooDeep) ↔ ((t : Tree) × (HoldsTree plan given ranks t × (63 < depth t)))
+  pub bad : (n ≡ badTree) ↔ ((0 < objectCount plan) × ((t : Tree) → HoldsTree plan given ranks t → ⊥))
+  -- what stands after it meets the rules, and is the tree that was offered; its number of nodes is sent
+  pub stands : n ≡ 0 → TreeRules plan nodes′ order′
+  pub same : n ≡ 0 → (t : Tree) → AcceptedTree plan given ranks t → AcceptedTree plan nodes′ order′ t
+  pub size-sent : n ≡ 0 → (t : Tree) → AcceptedTree plan given ranks t
+      → out′ ≡ sentWords out (oneWord (size t) .words)
+  pub none-sent : objectCount plan ≡ 0 → out′ ≡ sentWords out (oneWord 0 .words)
+
+pub record BuildKeeps (plan out : List ℕ) (n : ℕ) (nodes′ order′ out′ : List ℕ) : Type 0 where
+  pub one : (n ≡ 0) ⊎ (n ≡ tooDeep)
+  pub deep : (n ≡ tooDeep) ↔ ((0 < objectCount plan) × (63 < depth (builtOf (planAt plan) .tree)))
+  pub stands : n ≡ 0 → TreeRules plan nodes′ order′
+  pub same : n ≡ 0 → 0 < objectCount plan → AcceptedTree plan nodes′ order′ (builtOf (planAt plan) .tree)
+
+-- ---- a search from a bound, on a call's table w
+abbrev pub Distinct : List ℕ → Type 0
+Distinct [] = Unit {0}
+Distinct (x ∷ xs) = (In x xs → ⊥) × Distinct xs
+
+pub record Searches (w : List ℕ) (p : Vec3) (bound : DistHit) (a : Searched) : Type 0 where
+  pub tree : Tree
+  pub accepted : Accepted (nodesOf w) (nodesOf (seen w)) (orderOf w) (boxesOf (planIn w)) tree
+  pub demand : Demand (orderOf w) w (seen w) p tree bound a
+  -- every object k stands at a place of the order that was evaluated, or lies under a box passed over
+  pub each : (k : ℕ) → k < countOf objects w
+      → (i : ℕ) × ((wordOf (orderOf w) i ≡ k)
+      × (In i (demand .walk .seen) ⊎ Over (orderOf w) w (seen w) p (a .hit .d) (demand .walk .passed) i))
+  -- and none is evaluated twice
+  pub once : Distinct (map (wordOf (orderOf w)) (demand .walk .seen))
+
+-- with no objects the bound comes back
+abbrev pub Answers : List ℕ → Vec3 → DistHit → Searched → Type 0
+Answers w p bound a = ((countOf objects w ≡ 0) × (a ≡ searched bound 0 0 true)) ⊎ Searches w p bound a
+
+-- the hit at every point is that of such a search, from the nearest plane
+abbrev pub FieldAnswers : List ℕ → Type 0
+FieldAnswers w =
+    (p : Vec3) → (a : Searched)
+    × ((fieldBy 1 w (seen w) p ≡ a .hit) × Answers w p (nearest (planIn w .planes) p nothing) a)
+
+-- ---- the calls by the tree, each with the bytes of arguments that it reads
+pub record Call : Type 0 where
+  pub ask : Ask
+  pub need : ℕ
+
+abbrev pub fieldCalls : List Call
+fieldCalls =
+    record { ask = distMatReply; need = 12 } ∷ record { ask = traceReply; need = 32 }
+    ∷ record { ask = shadowReply; need = 36 } ∷ record { ask = directReply; need = 56 }
+    ∷ record { ask = directDiffuseReply; need = 36 } ∷ []
+
+abbrev pub treeCalls : List Call
+treeCalls = record { ask = queryReply; need = 20 } ∷ fieldCalls
+
+-- ---- the demand
+pub record DemandThree : Type 0 where
+  pub offer : (plan nodes order given ranks out : List ℕ) (n : ℕ) (nodes′ order′ out′ : List ℕ)
+      → FullPlan plan → FullTree nodes order → FullTree given ranks → outBytes ≤ length out
+      → SoundObjects (planAt plan)
+      → OfferSent plan nodes order given ranks out n nodes′ order′ out′
+      → OfferKeeps plan given ranks out n nodes′ order′ out′
+  pub build : (plan nodes order out : List ℕ) (n : ℕ) (nodes′ order′ out′ : List ℕ)
+      → FullPlan plan → FullTree nodes order → outBytes ≤ length out
+      → SoundObjects (planAt plan)
+      → BuildSent plan nodes order out n nodes′ order′ out′
+      → BuildKeeps plan out n nodes′ order′ out′
+  -- while the objects are those for which a tree meets the rules, no call by the tree sends 8
+  pub standing : (made plan nodes order : List ℕ)
+      → FullTree nodes order → SoundObjects (planAt made) → TreeRules made nodes order
+      → planAt plan .objects ≡ planAt made .objects
+      → All (λ (c : Call). (args : List ℕ) (out : ℕ)
+      → askReply (c .ask) (c .need) plan nodes order 1 args out .number ≡ noTree → ⊥) treeCalls
+  pub query : (plan nodes order args out : List ℕ) (n : ℕ) (out′ : List ℕ)
+      → Sent (askReply queryReply 20 plan nodes order 1 args (length out)) out n out′ → n ≡ 0
+      → let w = askTable 20 plan nodes order 1 args in
+      (a : Searched) × ((out′ ≡ sentWords out (searchedReply a .words))
+      × Answers w (argVec (seen w) 0) (queryBound w (seen w)) a)
+  pub fields : All (λ (c : Call). (plan nodes order args : List ℕ) (out : ℕ)
+      → askReply (c .ask) (c .need) plan nodes order 1 args out .number ≡ 0
+      → FieldAnswers (askTable (c .need) plan nodes order 1 args)) fieldCalls
