@@ -85,7 +85,7 @@ fn emitter_in(b: &[u8], n: u32, ro: Vec3, rd: Vec3, tmax: f32) -> Emitted
     best
 }
 
-fn aim_ok(ro: Vec3, rd: Vec3, tmax: f32) -> bool
+pub fn aim_ok(ro: Vec3, rd: Vec3, tmax: f32) -> bool
     ensures { λ r. ⌜ r ≡ aimOk ro rd tmax ⌝ }
 {
     refusals::both(
@@ -98,7 +98,7 @@ fn aim_ok(ro: Vec3, rd: Vec3, tmax: f32) -> bool
 }
 
 // Whether a panel shows, where on the ray, and its emission.
-fn emitted_reply(e: Emitted) -> Reply
+pub fn emitted_reply(e: Emitted) -> Reply
     ensures { λ r. ⌜ r ≡ emittedReply e ⌝ }
 {
     match e {
