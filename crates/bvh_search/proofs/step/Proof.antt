@@ -8,12 +8,14 @@ use Rattle.bvh_search.proofs.step.Tie as tie
 returns : tie.Need-returns
 unfolding steppedOf
 returns c = let test = c .before .before .before .before in
-    rw (sym (test .before .far-off .ensures), test .if1 .taken) (cc)
+    rw (sym (test .before .far-off .ensures), test .if1 .taken, c .next .ensures, c .before .popping .ensures)
 
 returns-2 : tie.Need-returns-2
 unfolding steppedOf
 returns-2 c = let test = c .before .before .before .before .before in
-    rw (sym (test .before .far-off .ensures), test .if1 .left) (cc)
+    let calls = c .before .before in
+    rw (sym (test .before .far-off .ensures), test .if1 .left, sym (calls .popping2 .ensures), sym (c .before .node-at .ensures))
+    (c .opened .ensures)
 
 pub step-spec : {M : Type 1} → statement M
 step-spec =
