@@ -9,7 +9,7 @@ use lib.Dec.{T, leb, lit≤, lit<, leb→le}
 use lib.Pow.{pow-pos, pow-add, pow-mono}
 use Rattle.root.specs.Root.{fields, val, mid, rootBits}
 use Rattle.root.specs.Inside.Steps.{expo, digs, Scaled}
-use Rattle.root.proofs.Patterns.{gap, val-suc, val-mono, val-lt, Found, root-unique, val-small}
+use Rattle.root.proofs.Patterns.{gap, val-suc, val-mono, val-lt, Found, bits-unique, val-small}
 
 -- ---- the bits j * 2 ^ 23 + a, for an a of 24 digits or 2 ^ 24, count a * 2 ^ j units
 pub val-at : (j a : ℕ) → 8388608 ≤ a → a ≤ 16777216 → val (j * 8388608 + a) ≡ a * 2 ^ j
@@ -218,7 +218,7 @@ n-pos b (suc n) j h e = omega arith
 pub result : (b n j s : ℕ) → b < 2139095040 → Scaled b n j → s * s ≤ n → n < (s + 1) * (s + 1) → 281474976710656 ≤ n → n < 1125899906842624 → j * 8388608 + (s + 1) / 2 ≡ rootBits (val b)
 result b n j s h e lo hi least most =
     let f = found (val b) n j s (e .same) lo hi least most in
-    root-unique (val b) (j * 8388608 + (s + 1) / 2) (val-small b h) (f .0) (f .1)
+    bits-unique (val b) (j * 8388608 + (s + 1) / 2) (val-small b h) (f .0) (f .1)
 
 pub begin : (b n e : ℕ) → e ≡ expo (b / 8388608) → Scaled b n ((expo (b / 8388608) + 1) / 2 + 62) → Scaled b n ((e + 1) / 2 + 62)
 begin b n e x h = subst (λ (z : ℕ). Scaled b n ((z + 1) / 2 + 62)) (sym x) h

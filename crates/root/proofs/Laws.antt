@@ -187,6 +187,7 @@ root-is x h =
     let f = root-found n (plain-under x h) in
     let e = root-units x h in
     record {
+      asked = h;
       held = root-plain x h;
       under = λ y q l.
           let d = plain-units y q in
@@ -206,8 +207,8 @@ root-only x r s a b = same r s (a .held) (b .held) (le-antisymm (no r s a b) (no
     no : (r s : Float) → IsRoot x r → IsRoot x s → units r ≤ units s
     no r s a b = le-of-not (units r) (units s) (λ (l : units s < units r). lt-irrefl (units x * 2 ^ 151) (lt-trans (b .under r (a .held) l) (subst (λ (z : ℕ). z * z < units x * 2 ^ 151) (add-comm (units r) (units s)) (a .over s (b .held) l))))
 
-pub root-unique : (x r : Float) → T (plain x) → IsRoot x r → r ≡ rootOf x
-root-unique x r h a = root-only x r (rootOf x) a (root-is x h)
+pub root-unique : (x r : Float) → IsRoot x r → r ≡ rootOf x
+root-unique x r a = root-only x r (rootOf x) a (root-is x (a .asked))
 
 -- ---- examples
 -- the root of the smallest f32, of the largest, of the largest below 1, and of the smallest that is normal

@@ -20,8 +20,9 @@ plain (inf s) = false
 plain (fin true m e) = false
 plain (fin false m e) = fits binary32 (fin false m e)
 
--- r is the root of x: it is nearer to √x than every other f32 is
+-- r is the root of x, both finite and not negative: it is nearer to √x than every other f32 is
 pub record IsRoot (x r : Float) : Type 0 where
+  pub asked : T (plain x)
   pub held : T (plain r)
   pub under : (y : Float) → T (plain y) → units r < units y
       → units x * 2 ^ 151 < (units r + units y) * (units r + units y)

@@ -35,7 +35,7 @@ fn guess(n: u64) -> u64
 }
 
 // The whole part of the root of n.
-pub fn isqrt(n: u64) -> u64
+fn isqrt(n: u64) -> u64
     ensures { λ r. ⌜ (r * r ≤ n) × (n < (r + 1) * (r + 1)) ⌝ }
 {
     let mut s = guess(n);
@@ -80,7 +80,7 @@ fn scaled(b: u64) -> u64
 }
 
 // The bits of the root of the f32 with the bits b, for one that is finite and not negative.
-pub fn root_bits(b: u64) -> u64
+fn root_bits(b: u64) -> u64
     ensures { λ r. ⌜ (r < 2139095040) × (b < 2139095040 → r ≡ rootBits (val b)) ⌝ }
 {
     if b == 0 {
