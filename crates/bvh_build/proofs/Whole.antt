@@ -1,8 +1,8 @@
 -- The build of a plan: the table that the code fills has the boxes of the plan's objects, its numbers are theirs, and
 -- the parts past them stand. By the laws of `laid` and of what a build depends on. Assumes nothing.
 use Prim.Native.Nat.{ℕ, _+_, _*_, _/_, _≤_, _<_}
-use mathlib.Core.Path.{_≡_, sym, ap, subst, _∙_}
-use mathlib.Core.Bool.{true}
+use mathlib.Core.Path.{_≡_, refl, sym, ap, subst, _∙_}
+use mathlib.Core.Bool.{true, false}
 use mathlib.Core.List.{List, _++_}
 use native.Mathlib.Omega.{arith}
 use lib.ListN.{length, getD, drop, replicate, length-replicate, getD-replicate}
@@ -26,7 +26,7 @@ use Rattle.bvh_build.specs.declared.Built.{Built}
 use Rattle.bvh_build.specs.Build.{TreeOrder, buildOf}
 use Rattle.bvh_build.specs.Encode.{laid, low32}
 use Rattle.bvh_build.specs.Tables.{builtOf, sizeOf, lowEnough, nodesWith, orderWith}
-use Rattle.bvh_build.specs.Inside.Lays.{Lays, Room, Builds, zeroBox}
+use Rattle.bvh_build.specs.Inside.Lays.{Lays, Room, Builds, BuildsFew, zeroBox}
 use Rattle.bvh_build.proofs.Laid.{laid-here, laid-front}
 use Rattle.bvh_build.proofs.Shape.{order-length}
 use Rattle.bvh_build.proofs.Same.{Alike, build-same}
@@ -109,3 +109,29 @@ builds-some a nw ow nw′ os′ n r L p pos h =
 -- how many objects, as the code counts them
 pub objects-count : (w : List ℕ) (f : List Float) (n : ℕ) → n ≡ countOf objects w → n ≡ length (planOf w f .objects)
 objects-count w f n e = e ∙ sym (lists.box-count w f) ∙ boxes-length (planOf w f)
+
+-- what a count of 0, one above 256 and one between them leave
+pub none-built
+    : (w : List ℕ) (f : List Float) (n : ℕ) (nw ow : List ℕ)
+    → n ≡ countOf objects w → n ≡ 0 → BuildsFew (planOf w f) nw ow (record { next = 0; low = true }) nw ow
+none-built w f n nw ow e z =
+    let k = objects-count w f n e in
+    record { few = λ _. builds-none (planOf w f) nw ow (sym k ∙ z); many = λ h. absurd (omega arith) }
+
+pub unbuilt
+    : (w : List ℕ) (f : List Float) (n : ℕ) (nw ow : List ℕ)
+    → n ≡ countOf objects w → 256 < n → BuildsFew (planOf w f) nw ow (record { next = 0; low = false }) nw ow
+unbuilt w f n nw ow e m =
+    let k = objects-count w f n e in
+    record {
+      few = λ h. absurd (omega arith);
+      many = λ _. record { next-is = refl; low-is = refl; nodes-are = refl; order-is = refl };
+    }
+
+pub few-built
+    : (w : List ℕ) (f : List Float) (n : ℕ) (nw ow : List ℕ) (r : Built) (nw′ ow′ : List ℕ)
+    → n ≡ countOf objects w → n ≤ 256
+    → Builds (planOf w f) nw ow r nw′ ow′ → BuildsFew (planOf w f) nw ow r nw′ ow′
+few-built w f n nw ow r nw′ ow′ e m b =
+    let k = objects-count w f n e in
+    record { few = λ _. b; many = λ h. absurd (omega arith) }

@@ -10,7 +10,7 @@ ghost use Rattle.bvh_split.specs.Inside.Table.{tableBoxes};
 ghost use Rattle.bvh_build.specs.Build.{buildOf};
 ghost use Rattle.bvh_build.specs.Encode.{nodeWords, laid, low32};
 ghost use Rattle.bvh_build.specs.Tables.{builtOf};
-ghost use Rattle.bvh_build.specs.Inside.Lays.{Lays, Room, Builds, zeroBox};
+ghost use Rattle.bvh_build.specs.Inside.Lays.{Lays, Room, Builds, BuildsFew, zeroBox};
 use plan::Floats;
 use plan::Nodes;
 use plan::Order;
@@ -163,15 +163,20 @@ fn build_front(ws: &Words, fs: &Floats, nw: &mut Nodes, ow: &mut [u32], n: usize
     build_with(ws, fs, nw, &mut ow[..n], &mut t)
 }
 
-// The tree of a plan's objects, in tables that stand as they are past it.
+// The tree of a plan's objects, in tables that stand as they are past it; of more than 256 nothing is built.
 pub fn build(ws: &Words, fs: &Floats, nw: &mut Nodes, ow: &mut Order) -> Built
-    ensures { λ r. ⌜ (length (planOf (now (ws .entry)) (now (fs .entry)) .objects) ≤ 256
-        → Builds (planOf (now (ws .entry)) (now (fs .entry))) (now (nw .entry)) (now (ow .entry)) r
-        (now (nw .exit)) (now (ow .exit))) ⌝ }
+    ensures { λ r. ⌜ BuildsFew (planOf (now (ws .entry)) (now (fs .entry))) (now (nw .entry)) (now (ow .entry)) r
+        (now (nw .exit)) (now (ow .exit)) ⌝ }
 {
     let n = bvh_rules::object_count(ws) as usize;
     if n == 0 {
         return Built { next: 0, low: true };
+    }
+    if n > 256 {
+        return Built {
+            next: 0,
+            low: false,
+        };
     }
     build_front(ws, fs, nw, ow, n)
 }

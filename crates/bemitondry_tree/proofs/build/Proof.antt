@@ -12,7 +12,7 @@ returns c =
     let i = b .before .before .before in
     let y = i .before .before in
     let x = y .before .before in
-    builds _ _ _ _ _ _ _ _ _ _ (i .before .objects-number .ensures) (i .if1 .taken) (b .build .ensures)
+    builds _ _ _ _ _ _ _ _ _ _ (i .before .objects-number .ensures) (i .if1 .taken) (b .build .ensures .few)
     (u .unless .ensures) (t .before .lower .ensures) _ _ _ _ (x .before .clear-arg .given .0 .1)
     (y .before .clear-arg2 .given .0 .1) (x .clear .ensures) (y .clear2 .ensures) (t .if2 .taken)
     (c .before .narrow .ensures) (c .done .ensures)
@@ -25,7 +25,7 @@ returns-2 c =
     let u = t .before .before in
     let b = u .before in
     let i = b .before .before .before in
-    builds-deep _ _ _ _ _ _ _ _ _ _ (i .before .objects-number .ensures) (i .if1 .taken) (b .build .ensures)
+    builds-deep _ _ _ _ _ _ _ _ _ _ (i .before .objects-number .ensures) (i .if1 .taken) (b .build .ensures .few)
     (u .unless .ensures) (t .before .lower .ensures) _ _ _ _ _ (j .before .clear-arg3 .given .0 .1)
     (k .before .clear-arg4 .given .0 .1) (j .clear3 .ensures) (k .clear4 .ensures) (t .if2 .left) (c .refused .ensures)
 

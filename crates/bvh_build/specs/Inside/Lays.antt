@@ -1,6 +1,7 @@
 -- What one call of the builder leaves, given room, and what the whole build leaves. Definitions only.
 use Prim.Native.Nat.{ℕ, _+_, _*_, _≤_, _<_}
 use mathlib.Core.Path.{_≡_}
+use mathlib.Core.Bool.{false}
 use mathlib.Core.List.{List}
 use lib.ListN.{length}
 use Rattle.scalar.specs.F32.{f0}
@@ -32,6 +33,17 @@ pub record Builds (p : Plan) (nodes order : List ℕ) (r : Built) (nodes′ orde
   pub low-is : r .low ≡ lowEnough p
   pub nodes-are : nodes′ ≡ nodesWith p nodes
   pub order-is : order′ ≡ orderWith p order
+
+-- of more than 256 objects nothing is built
+pub record Unbuilt (nodes order : List ℕ) (r : Built) (nodes′ order′ : List ℕ) : Type 0 where
+  pub next-is : r .next ≡ 0
+  pub low-is : r .low ≡ false
+  pub nodes-are : nodes′ ≡ nodes
+  pub order-is : order′ ≡ order
+
+pub record BuildsFew (p : Plan) (nodes order : List ℕ) (r : Built) (nodes′ order′ : List ℕ) : Type 0 where
+  pub few : length (p .objects) ≤ 256 → Builds p nodes order r nodes′ order′
+  pub many : 256 < length (p .objects) → Unbuilt nodes order r nodes′ order′
 
 -- what a table of floats that are 0 holds
 abbrev pub zeroBox : Aabb
