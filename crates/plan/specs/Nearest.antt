@@ -3,10 +3,11 @@
 -- only strictly less replaces." Definitions only.
 use mathlib.Core.Bool.{cond}
 use mathlib.Core.List.{List, [], _∷_}
-use lib.Ieee.{Float, binary32, ofBits, neg, lt}
+use lib.Ieee.{Float, neg, lt}
 use Rattle.scalar.specs.Extremes.{fmax}
 use Rattle.vec.specs.declared.Vec3.{Vec3}
 use Rattle.sdf.specs.Shapes.{distOf}
+use Rattle.refusals.specs.Ranges.{greatest}
 use Rattle.plan.specs.declared.Cutter.{Cutter}
 use Rattle.plan.specs.declared.DistHit.{DistHit}
 use Rattle.plan.specs.Plan.{Cuts, Piece, Plan}
@@ -34,7 +35,7 @@ nearest (o ∷ os) p best = nearest os p (closer best (hitOf o p))
 
 -- f32::MAX and material 0
 abbrev pub nothing : DistHit
-nothing = record { d = ofBits binary32 0x7f7f_ffff; mat = 0 }
+nothing = record { d = greatest; mat = 0 }
 
 -- the objects alone, from a bound
 unfoldable pub listHit : Plan → Vec3 → DistHit → DistHit
