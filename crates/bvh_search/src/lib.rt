@@ -62,7 +62,7 @@ pub struct State {
 }
 
 // The square of the distance from p to a box.
-pub fn box_square(p: Vec3, b: Aabb) -> f32
+fn box_square(p: Vec3, b: Aabb) -> f32
     ensures { λ r. ⌜ r ≡ boxSquare p b ⌝ }
 {
     let lo = b.lo;
@@ -417,7 +417,7 @@ fn run(
 }
 
 // The nearest object by the tree, from a bound with its material.
-pub fn search(ws: &Words, fs: &Floats, p: Vec3, bound: DistHit) -> Searched
+fn search(ws: &Words, fs: &Floats, p: Vec3, bound: DistHit) -> Searched
     ensures { λ r. ⌜ r ≡ searchOf (nodesOf (now (ws .entry))) (nodesOf (now (fs .entry))) (orderOf (now (ws .entry)))
         (now (ws .entry)) (now (fs .entry)) p bound ⌝ }
 {

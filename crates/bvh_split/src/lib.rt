@@ -54,7 +54,7 @@ pub struct Sweep {
 }
 
 // Box k of a table; past the last one what lies within no box.
-pub fn box_at(t: &[f32], k: usize) -> Aabb
+fn box_at(t: &[f32], k: usize) -> Aabb
     ensures { λ r. ⌜ r ≡ boxAt (tableBoxes (now (t .entry))) k ⌝ }
 {
     if k < t.len() / BOX_FLOATS {
@@ -90,7 +90,7 @@ pub fn put_box(t: &mut [f32], k: usize, b: Aabb)
 }
 
 // The object at a place of a range, 0 past its end.
-pub fn object_at(os: &[u32], i: usize) -> u32
+fn object_at(os: &[u32], i: usize) -> u32
     ensures { λ r. ⌜ r ≡ getD (now (os .entry)) i 0 ⌝ }
 {
     if i < os.len() {

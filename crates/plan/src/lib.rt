@@ -131,7 +131,7 @@ pub fn word_after(ws: &Words, i: usize, j: u32) -> u32
 }
 
 // Float i, and no number past the last.
-pub fn float_in(fs: &Floats, i: usize) -> f32
+fn float_in(fs: &Floats, i: usize) -> f32
     ensures { λ r. ⌜ r ≡ floatOf (now (fs .entry)) i ⌝ }
 {
     if i < TABLE {
@@ -335,7 +335,7 @@ pub fn closer(best: DistHit, hit: DistHit) -> DistHit
 }
 
 // The best of a hit and n pieces from row r on.
-pub fn nearest(ws: &Words, fs: &Floats, r: u32, n: u32, p: Vec3, best: DistHit) -> DistHit
+fn nearest(ws: &Words, fs: &Floats, r: u32, n: u32, p: Vec3, best: DistHit) -> DistHit
     ensures { λ h. ⌜ h ≡ nearest (piecesFrom (now (ws .entry)) (now (fs .entry)) r n) p best ⌝ }
 {
     let mut hit = best;

@@ -22,7 +22,7 @@ pub enum Added {
     Done(u32),
 }
 
-pub fn added_of(no: u32, index: u32) -> Added
+fn added_of(no: u32, index: u32) -> Added
     ensures { λ r. ⌜ r ≡ addedOf no index ⌝ }
 {
     if no == 0 {

@@ -128,7 +128,7 @@ pub fn radius(x: f32) -> bool
 }
 
 // Every number of a shape is in its range.
-pub fn shape_ok(s: Shape) -> bool
+fn shape_ok(s: Shape) -> bool
     ensures { λ r. ⌜ r ≡ shapeOk s ⌝ }
 {
     match s {
@@ -155,7 +155,7 @@ pub fn no_length(v: Vec3) -> bool
 }
 
 // A capsule of no extent.
-pub fn flat(s: Shape) -> bool
+fn flat(s: Shape) -> bool
     ensures { λ r. ⌜ r ≡ flat s ⌝ }
 {
     match s {

@@ -236,7 +236,7 @@ fn around(a: Vec3, b: Vec3, r: f32) -> Aabb
 }
 
 impl Aabb {
-    pub fn widened(self, e: f32) -> Aabb
+    fn widened(self, e: f32) -> Aabb
         ensures { λ r. ⌜ r ≡ widened self e ⌝ }
     {
         Aabb {

@@ -24,7 +24,7 @@ pub const ORDER_BYTES: usize = 1024;
 pub const OUT_BYTES: usize = 64;
 
 // 2 where a table is short of its full size.
-pub fn short(bytes: usize, full: usize) -> u32
+fn short(bytes: usize, full: usize) -> u32
     ensures { λ r. ⌜ r ≡ shortNumber bytes full ⌝ }
 {
     refusals::unless(refusals::NO_ROOM, full <= bytes)
@@ -48,7 +48,7 @@ pub fn none(t: &[u8]) -> &[u8]
 }
 
 // A table of a tree, which is looked at where `tree` is 1.
-pub fn used(tree: u32, t: &[u8], full: usize) -> &[u8]
+fn used(tree: u32, t: &[u8], full: usize) -> &[u8]
     ensures { λ r. ⌜ now r ≡ usedOf tree (now (t .entry)) full ⌝ }
 {
     if tree == 1 {
@@ -87,7 +87,7 @@ fn load_part(t: &[u8], ws: &mut [u32], from: usize, to: usize)
 }
 
 // The tables as they are lent, in one; what they do not have is 0.
-pub fn load(plan: &[u8], args: &[u8], nodes: &[u8], order: &[u8], ws: &mut Words, fs: &mut Floats)
+fn load(plan: &[u8], args: &[u8], nodes: &[u8], order: &[u8], ws: &mut Words, fs: &mut Floats)
     ensures { λ _.
         ⌜ (now (ws .exit) ≡ tableOf (now (plan .entry)) (now (args .entry)) (now (nodes .entry)) (now (order .entry)))
         × (now (fs .exit) ≡ seen (now (ws .exit))) ⌝ }
@@ -181,7 +181,7 @@ pub fn tree_tables_before(
 }
 
 // What applies by `tree`: 1 is the tree, 0 the plain list.
-pub fn tree_before(tree: u32, nodes: usize, order: usize) -> u32
+fn tree_before(tree: u32, nodes: usize, order: usize) -> u32
     ensures { λ r. ⌜ r ≡ treeBefore tree nodes order ⌝ }
 {
     if tree == 1 {
