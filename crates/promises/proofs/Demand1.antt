@@ -23,7 +23,6 @@ use Rattle.plan_entry.specs.After as made
 use Rattle.plan_entry.specs.After.{withOne, Made}
 use Rattle.plan_entry.proofs.Entered.{piece-entered, material-entered, light-entered, plan-relent}
 use Rattle.plan_entry.proofs.Made.{made-lit}
-use Rattle.reply.specs.Reply.{doneReply, refusedReply, oneWord, replyOf}
 use Rattle.wire.specs.Lent.{planTable}
 use Rattle.wire.specs.Sent.{planBefore, cleared}
 use Rattle.bemitondry_entry.specs.Entries.{materialEntry, lightEntry, pieceEntry, pieceLeft}
@@ -32,15 +31,11 @@ use Rattle.promises.specs.Bytes.{planWith, planAt, FullPlan, FullTree}
 use Rattle.promises.specs.Demand1.{Lent, MaterialTaken, LightTaken, PieceTaken, Enters, entering, Run, start}
 use Rattle.promises.specs.Demand1.{material, light, plane, object, Passes, emptyPlan, DemandOne}
 use Rattle.promises.proofs.Tables.{Leaves, table-size, stored, front-same, relent-word, zero-plan}
+use Rattle.promises.proofs.Applies.{entry-sends}
 use Rattle.promises.proofs.Leaves.{piece-leaves, material-leaves, light-leaves}
 use Rattle.promises.proofs.Taken.{lent-exact, lent-tree-exact, material-taken, light-taken, piece-taken}
 
 -- ---- what any entry's number decides
-reply-number : (m i : ℕ) → replyOf m (oneWord i) .number ≡ m
-unfolding replyOf doneReply refusedReply
-reply-number zero i = refl
-reply-number (suc m) i = rw (eqb·suc-zero m)
-
 refused : {A : Type 0} (m : ℕ) (x y : A) → 0 < m → cond (eqb m 0) x y ≡ y
 refused zero x y h = absurd (omega arith)
 refused (suc m) x y h = rw (eqb·suc-zero m)
@@ -68,9 +63,6 @@ relent need need′ plan args args′ m =
 module _ {number index need : ℕ} {plan args left out : List ℕ} {n : ℕ} {plan′ out′ : List ℕ} {L Taken : Type 0}
     {after : Plan} (e : Entry number need plan args left L Taken after)
     (s : EntrySent number index left plan out n plan′ out′) where
-  number-is : n ≡ number
-  number-is = s .sent .number-is ∙ reply-number number index
-
   kept : 0 < number → plan′ ≡ plan
   kept h = s .plan-is ∙ refused number (withWords plan (take planWords left)) plan h
 
@@ -83,7 +75,7 @@ module _ {number index need : ℕ} {plan args left out : List ℕ} {n : ℕ} {pl
 
   enters : Enters (L × Taken) need plan args n plan′ after
   enters =
-      let i = number-is in
+      let i = entry-sends s in
       record {
         exactly = (λ z. e .exactly .0 (sym i ∙ z), λ t. i ∙ e .exactly .1 t);
         entered = λ z. ap planIn (loaded (sym i ∙ z)) ∙ e .entered (sym i ∙ z);
@@ -231,8 +223,7 @@ demand-one =
       object-enters = λ plan nodes order args out n plan′ nodes′ order′ out′ e.
           enters (object-entry plan args out nodes order) (e .piece);
       tree-kept = λ plan nodes order args out n plan′ nodes′ order′ out′ e h.
-          let m = number-is (object-entry plan args out nodes order) (e .piece) in
-          let g = subst (λ (k : ℕ). 0 < k) m h in
+          let g = subst (λ (k : ℕ). 0 < k) (entry-sends (e .piece)) h in
           (e .nodes-is ∙ refused _ _ nodes g, e .order-is ∙ refused _ _ order g);
       zero-bytes = zero-bytes;
       alone = alone;

@@ -6,3 +6,4 @@ pub mod Tables
 pub mod Leaves
 pub mod Taken
 pub mod Demand1
+pub mod Applies
