@@ -2,8 +2,13 @@ pub mod Rows
 pub mod Standing
 pub mod Unique
 pub mod Lowest
+pub mod Applies
 pub mod Tables
 pub mod Leaves
 pub mod Taken
+pub mod Entries
 pub mod Demand1
-pub mod Applies
+pub mod Given
+pub mod Reached
+pub mod Witness
+pub mod Remade

@@ -63,6 +63,19 @@ module _ (need : ℕ) (plan args : List ℕ) where
       ap (λ (t : List ℕ). wordOf t i) parts
       ∙ in-front (wordAt (lentOf plan planBytes)) planWords (restOf (lentOf args need)) i h
 
+  -- a word of the arguments
+  pub args-word
+      : (i : ℕ)
+      → i < argsWords
+      → wordOf (planTable need plan args) (planWords + i) ≡ wordAt (lentOf args need) i
+  args-word i h =
+      let front : List ℕ = wordsOf (lentOf plan planBytes) planWords in
+      let size : length front ≡ planWords = lengthWords (lentOf plan planBytes) planWords in
+      ap (λ (t : List ℕ). wordOf t (planWords + i)) parts
+      ∙ ap (λ (k : ℕ). wordOf (front ++ restOf (lentOf args need)) (k + i)) (sym size)
+      ∙ getD-append-add front (restOf (lentOf args need)) i 0
+      ∙ in-front (wordAt (lentOf args need)) argsWords _ i h
+
 -- the words after the plan
 pub rest-word
     : (need : ℕ) (p q args : List ℕ) (i : ℕ)
@@ -77,7 +90,7 @@ rest-word need p q args i h =
     ∙ ap (λ (t : List ℕ). wordOf t i) (sym (parts need q args))
 
 -- ---- a plan that is stored
-full : (t : List ℕ) (n : ℕ) → n ≤ length t → lentOf t n ≡ t
+pub full : (t : List ℕ) (n : ℕ) → n ≤ length t → lentOf t n ≡ t
 unfolding lentOf
 full t n h = rw (le-leb n (length t) h)
 

@@ -1,0 +1,162 @@
+-- An entry on bytes: what it stores the next call loads, so what is known of its table holds of the bytes, and a plan
+-- made by entries stays one. One law for the four entries. Assumes nothing.
+use Prim.Native.Nat.{ℕ, zero, suc, _<_}
+use native.Mathlib.Omega.{arith}
+use mathlib.Core.Path.{_≡_, refl, sym, _∙_, ap, subst}
+use mathlib.Core.Logic.{_↔_, ⊎-elim}
+use mathlib.Core.Bool.{Bool, true, false, cond}
+use mathlib.Core.List.{List, []}
+use lib.ListN.{length, take}
+use lib.Dec.{eqb, eqb·suc-zero}
+use Rattle.words.specs.Words.{withWords}
+use Rattle.words.proofs.Laws.{less-or}
+use Rattle.plan.specs.Sections.{planWords, tableWords, argsRow}
+use Rattle.plan.specs.Records.{materialAt, lightAt}
+use Rattle.plan.specs.Plan.{Plan, seen, planIn, withMaterial, withLight}
+use Rattle.plan_test.specs.Tests.{solidsOf}
+use Rattle.plan_entry.specs.Entry.{argCuts, newPlace, withMaterialWords, withLightWords}
+use Rattle.plan_entry.specs.After as made
+use Rattle.plan_entry.specs.After.{withOne, Made}
+use Rattle.plan_entry.proofs.Entered.{piece-entered, material-entered, light-entered}
+use Rattle.wire.specs.Lent.{planTable}
+use Rattle.wire.specs.Sent.{planBefore}
+use Rattle.bemitondry_entry.specs.Entries.{materialEntry, lightEntry, pieceEntry, pieceLeft}
+use Rattle.viewer.specs.Entries.{EntrySent, objectBefore}
+use Rattle.promises.specs.Bytes.{FullPlan, FullTree}
+use Rattle.promises.specs.Demand1.{Lent, MaterialTaken, LightTaken, PieceTaken, Enters, entering}
+use Rattle.promises.specs.Demand1.{material, light}
+use Rattle.promises.proofs.Tables.{Leaves, table-size, stored, front-same, relent-word}
+use Rattle.promises.proofs.Applies.{entry-sends}
+use Rattle.promises.proofs.Leaves.{piece-leaves, material-leaves, light-leaves}
+use Rattle.promises.proofs.Taken.{lent-exact, lent-tree-exact, material-taken, light-taken, piece-taken}
+
+-- ---- what any entry's number decides
+pub refused : {A : Type 0} (m : ℕ) (x y : A) → 0 < m → cond (eqb m 0) x y ≡ y
+refused zero x y h = absurd (omega arith)
+refused (suc m) x y h = rw (eqb·suc-zero m)
+
+-- an entry, as tables have it: its number, what it leaves, the lengths and the record that it takes, and the plan then
+pub record Entry (number need : ℕ) (plan args left : List ℕ) (L Taken : Type 0) (after : Plan) : Type 0 where
+  pub exactly : (number ≡ 0) ↔ (L × Taken)
+  pub full : L → FullPlan plan
+  pub leaves : Leaves (planTable need plan args) left
+  pub entered : number ≡ 0 → planIn left ≡ after
+  pub makes : Made (planTable need plan args) → Taken → Made left
+
+-- a plan made by entries stays one with other arguments
+relent
+    : (need need′ : ℕ) (plan args args′ : List ℕ)
+    → Made (planTable need plan args)
+    → Made (planTable need′ plan args′)
+relent need need′ plan args args′ m =
+    let w : List ℕ = planTable need plan args in
+    let v : List ℕ = planTable need′ plan args′ in
+    let size = table-size need′ plan args′ in
+    made.relent w v m size
+    (front-same planWords tableWords v w size (table-size need plan args) (relent-word need′ args′ need args plan))
+
+module _ {number index need : ℕ} {plan args left out : List ℕ} {n : ℕ} {plan′ out′ : List ℕ} {L Taken : Type 0}
+    {after : Plan} (e : Entry number need plan args left L Taken after)
+    (s : EntrySent number index left plan out n plan′ out′) where
+  pub kept : 0 < number → plan′ ≡ plan
+  kept h = s .plan-is ∙ refused number (withWords plan (take planWords left)) plan h
+
+  loaded : number ≡ 0 → planTable need plan′ args ≡ left
+  loaded z =
+      let stores : plan′ ≡ withWords plan (take planWords left)
+      = s .plan-is ∙ ap (λ (m : ℕ). cond (eqb m 0) (withWords plan (take planWords left)) plan) z in
+      ap (λ (b : List ℕ). planTable need b args) stores
+      ∙ stored need plan args left (e .full (e .exactly .0 z .0)) (e .leaves)
+
+  pub enters : Enters (L × Taken) need plan args n plan′ after
+  enters =
+      let i = entry-sends s in
+      record {
+        exactly = (λ z. e .exactly .0 (sym i ∙ z), λ t. i ∙ e .exactly .1 t);
+        entered = λ z. ap planIn (loaded (sym i ∙ z)) ∙ e .entered (sym i ∙ z);
+        kept = λ h. kept (subst (λ (m : ℕ). 0 < m) i h);
+      }
+
+  pub still-made : Made (planTable 0 plan []) → Made (planTable 0 plan′ [])
+  still-made m =
+      ⊎-elim
+      (λ h. subst (λ (b : List ℕ). Made (planTable 0 b [])) (sym (kept h)) m)
+      (λ h.
+      let z : number ≡ 0 = omega arith in
+      relent need 0 plan′ args []
+      (subst Made (sym (loaded z)) (e .makes (relent 0 need plan [] args m) (e .exactly .0 z .1))))
+      (less-or 0 number)
+
+-- ---- the four entries
+none : (_≡_ {A = ℕ} 0 0) ↔ Unit {0}
+none = (λ _. tt, λ _. refl)
+
+module _ (plan args out : List ℕ) where
+  pub material-entry
+      : let w = planTable 20 plan args in
+      Entry (materialEntry (planBefore (length plan) 20 (length args) (length out)) w (seen w)) 20 plan args
+      (withMaterialWords w) (Lent 20 plan args out) (MaterialTaken w)
+      (withMaterial (planIn w) (materialAt (seen w) argsRow))
+  material-entry =
+      let w : List ℕ = planTable 20 plan args in
+      let before : ℕ = planBefore (length plan) 20 (length args) (length out) in
+      record {
+        exactly = material-taken before (Lent 20 plan args out) (lent-exact 20 plan args out) w;
+        full = λ l. l .plan-full;
+        leaves = material-leaves w;
+        entered = material-entered before w (table-size 20 plan args);
+        makes = λ m t. made.material w m (material-taken 0 Unit none w .1 (tt, t));
+      }
+
+  pub light-entry
+      : let w = planTable 60 plan args in
+      Entry (lightEntry (planBefore (length plan) 60 (length args) (length out)) w (seen w)) 60 plan args
+      (withLightWords w) (Lent 60 plan args out) (LightTaken w)
+      (withLight (planIn w) (lightAt (seen w) argsRow))
+  light-entry =
+      let w : List ℕ = planTable 60 plan args in
+      let before : ℕ = planBefore (length plan) 60 (length args) (length out) in
+      record {
+        exactly = light-taken before (Lent 60 plan args out) (lent-exact 60 plan args out) w;
+        full = λ l. l .plan-full;
+        leaves = light-leaves w;
+        entered = light-entered before w (table-size 60 plan args);
+        makes = λ m t. made.light w m (light-taken 0 Unit none w .1 (tt, t));
+      }
+
+  pub piece-entry
+      : (among : Bool) (before : ℕ) (L : Type 0)
+      → (before ≡ 0) ↔ L
+      → (L → FullPlan plan)
+      → let w = planTable 64 plan args in
+      Entry (pieceEntry before among w (seen w) (length args)) 64 plan args (pieceLeft among w (seen w)) L
+      (PieceTaken among (length args) w) (withOne among (planIn w) (entering among w))
+  piece-entry among before L p full =
+      let w : List ℕ = planTable 64 plan args in
+      let bytes : ℕ = length args in
+      record {
+        exactly = piece-taken before L p among bytes w;
+        full = full;
+        leaves = piece-leaves among w (newPlace among (solidsOf (planIn w)) (argCuts w));
+        entered = piece-entered before among w bytes (table-size 64 plan args);
+        makes = λ m t. made.piece among bytes w m (piece-taken 0 Unit none among bytes w .1 (tt, t));
+      }
+
+  pub plane-entry
+      : let w = planTable 64 plan args in
+      Entry (pieceEntry (planBefore (length plan) 64 (length args) (length out)) true w (seen w) (length args)) 64 plan
+      args (pieceLeft true w (seen w)) (Lent 64 plan args out)
+      (PieceTaken true (length args) w) (withOne true (planIn w) (entering true w))
+  plane-entry =
+      piece-entry true (planBefore (length plan) 64 (length args) (length out)) (Lent 64 plan args out)
+      (lent-exact 64 plan args out) (λ l. l .plan-full)
+
+  pub object-entry
+      : (nodes order : List ℕ)
+      → let w = planTable 64 plan args in
+      Entry (pieceEntry (objectBefore plan nodes order args out) false w (seen w) (length args)) 64 plan args
+      (pieceLeft false w (seen w)) (Lent 64 plan args out × FullTree nodes order)
+      (PieceTaken false (length args) w) (withOne false (planIn w) (entering false w))
+  object-entry nodes order =
+      piece-entry false (objectBefore plan nodes order args out) (Lent 64 plan args out × FullTree nodes order)
+      (lent-tree-exact 64 plan nodes order args out) (λ l. l .0 .plan-full)
