@@ -26,7 +26,7 @@ use Rattle.wire.specs.Lent.{planTable}
 use Rattle.promises.proofs.Tables.{full, args-word}
 
 -- ---- bytes whose words are g 0, g 1, ..: so many as a call's table has of its arguments
-pub bytesOf : (ℕ → ℕ) → List ℕ
+unfoldable pub bytesOf : (ℕ → ℕ) → List ℕ
 bytesOf g = withWords (replicate 576 0) (listFrom g 0 argsWords)
 
 pub length-bytes : (g : ℕ → ℕ) → length (bytesOf g) ≡ 576

@@ -9,6 +9,7 @@ pub mod Taken
 pub mod Entries
 pub mod Demand1
 pub mod Given
+pub mod Small
 pub mod Reached
 pub mod Witness
 pub mod Remade

@@ -10,7 +10,7 @@ use lib.Dec.{eqb}
 use lib.Ieee.{Float, binary32, ofBits, le}
 use Rattle.scalar.specs.Ranges.{between}
 use Rattle.words.specs.Words.{withWords, sentWords}
-use Rattle.words.proofs.Laws.{length-puts}
+use Rattle.words.proofs.Laws.{length-puts, Bytes}
 use Rattle.refusals.specs.Ranges.{upTo, withinUpTo}
 use Rattle.plan.specs.Sections.{planWords, argsRow, cutterPlaces, materials, lights, planes, objects}
 use Rattle.plan.specs.declared.Head.{Head}
@@ -34,12 +34,23 @@ use Rattle.promises.specs.Demand1.{Lent, MaterialOk, MaterialTaken, Ligh
 use Rattle.promises.specs.Demand1.{Run, start, material, light, plane, object, emptyPlan}
 use Rattle.promises.proofs.Entries.{Entry, enters, material-entry, light-entry, plane-entry, object-entry}
 use Rattle.promises.proofs.Demand1.{demand-one}
+use Rattle.promises.proofs.Small.{Small, bytes-zero, given-bytes}
 use Rattle.promises.proofs.Given.{bytesOf, length-bytes, given-word, headBy, pieceBy, given-head, given-cuts}
+
+-- every list that is lent in a run is of bytes
+abbrev pub Lends : {plan : List ℕ} → Run plan → Type 0
+Lends (start k) = Unit {0}
+Lends (material args out n plan′ out′ r e) = (Bytes args × Bytes out) × Lends r
+Lends (light args out n plan′ out′ r e) = (Bytes args × Bytes out) × Lends r
+Lends (plane args out n plan′ out′ r e) = (Bytes args × Bytes out) × Lends r
+Lends (object nodes order args out n plan′ nodes′ order′ out′ r e) =
+    ((Bytes nodes × Bytes order) × (Bytes args × Bytes out)) × Lends r
 
 -- full bytes that a run makes, and that hold the plan p
 pub record Reached (p : Plan) : Type 0 where
   pub plan : List ℕ
   pub run : Run plan
+  pub lent : Lends run
   pub full : FullPlan plan
   pub is : planAt plan ≡ p
 
@@ -51,6 +62,7 @@ reach-none =
     record {
       plan = replicate planBytes 0;
       run = start planBytes;
+      lent = tt;
       full = zeros-long planBytes planBytes (omega arith);
       is = demand-one .zero-bytes planBytes;
     }
@@ -77,14 +89,16 @@ step
     → Entry number need plan args left L Taken after
     → L × Taken
     → FullPlan plan
-    → Run (stores number left plan)
+    → (r : Run (stores number left plan))
+    → Lends r
     → Reached after
-step {number} {need} {plan} {args} {left} e t h r =
+step {number} {need} {plan} {args} {left} e t h r b =
     let x = enters e (sends number 0 left plan) in
     let sound = demand-one .runs-pass r .0 .solids in
     record {
       plan = stores number left plan;
       run = r;
+      lent = b;
       full = stores-full number left plan (e .exactly .1 t) h;
       is = sym (demand-one .alone need (stores number left plan) args sound) ∙ x .entered (x .exactly .1 t);
     }
@@ -143,7 +157,8 @@ reach-material {p} r h =
     } in
     subst Reached (rw (same, own))
     (step e (lends r 20 noWords (omega arith), taken) (r .full)
-    (material args out _ _ _ (r .run) (sends _ (countOf materials w) _ plan)))
+    (material args out _ _ _ (r .run) (sends _ (countOf materials w) _ plan))
+    ((given-bytes noWords (λ i. omega arith), bytes-zero outBytes), r .lent))
 
 -- ---- a light that stands in a row of some table
 pub reach-light
@@ -151,10 +166,11 @@ pub reach-light
     → Reached p
     → (t : List ℕ) (row : ℕ)
     → row < 1706
+    → ((i : ℕ) → Small (wordOf t i))
     → LightOk (lightAt (seen t) row)
     → length (p .lights) < 16
     → Reached (withLight p (lightAt (seen t) row))
-reach-light {p} r t row l ok h =
+reach-light {p} r t row l b ok h =
     let g : ℕ → ℕ = λ k. wordOf t (16 * row + k) in
     let args : List ℕ = bytesOf g in
     let plan : List ℕ = r .plan in
@@ -172,7 +188,8 @@ reach-light {p} r t row l ok h =
     } in
     subst Reached (rw (same, own))
     (step (light-entry plan args out) (lends r 60 g (omega arith), taken) (r .full)
-    (light args out _ _ _ (r .run) (sends _ (countOf lights w) _ plan)))
+    (light args out _ _ _ (r .run) (sends _ (countOf lights w) _ plan))
+    ((given-bytes g (λ i. b (16 * row + i)), bytes-zero outBytes), r .lent))
 
 -- ---- a piece by its words
 -- a new piece stands where its list goes on
@@ -187,6 +204,7 @@ place-is false w h d p c = let e = d .object refl in omega arith
 
 -- what is asked of it
 pub record Comes (among : Bool) (p : Plan) (g : ℕ → ℕ) : Type 0 where
+  pub small : (i : ℕ) → Small (g i)
   pub ok : PieceOk among (length (p .materials)) (pieceBy g)
   pub at : PlaceIs among (cuttersOf (listOf among p)) (headBy g)
   pub count : length (listOf among p) < sectionOf among .most
@@ -232,15 +250,17 @@ module _ (among : Bool) {p : Plan} (r : Reached p) (g : ℕ → ℕ) (c : Comes 
       → Entry (pieceEntry before among on (seen on) (length given)) 64 (r .plan) given (pieceLeft among on (seen on)) L
       (PieceTaken among (length given) on) (withOne among (planIn on) (entering among on))
       → L
-      → Run (stores (pieceEntry before among on (seen on) (length given)) (pieceLeft among on (seen on)) (r .plan))
+      → (run
+      : Run (stores (pieceEntry before among on (seen on) (length given)) (pieceLeft among on (seen on)) (r .plan)))
+      → Lends run
       → Reached (withOne among p (pieceBy g))
-  reach-by before L e l run =
+  reach-by before L e l run b =
       let t : L × PieceTaken among (length given) on = (l, piece-is-taken) in
       let d = placed-for among on (accepted before among on (length given) (e .exactly .1 t)) in
       let after : withOne among (planIn on) (entering among on) ≡ withOne among p (pieceBy g)
       = ap (λ (q : Plan). withOne among q (entering among on)) (read r 64 given)
       ∙ ap (withOne among p) (entering-is d) in
-      subst Reached after (step e t (r .full) run)
+      subst Reached after (step e t (r .full) run b)
 
 pub reach-plane : {p : Plan} → Reached p → (g : ℕ → ℕ) → Comes true p g → Reached (withOne true p (pieceBy g))
 reach-plane r g c =
@@ -250,6 +270,7 @@ reach-plane r g c =
     reach-by true r g c before (Lent 64 (r .plan) args out) (plane-entry (r .plan) args out)
     (lends r 64 g (omega arith))
     (plane args out _ _ _ (r .run) (sends _ (countOf planes w) _ (r .plan)))
+    ((given-bytes g (c .small), bytes-zero outBytes), r .lent)
 
 pub reach-object : {p : Plan} → Reached p → (g : ℕ → ℕ) → Comes false p g → Reached (withOne false p (pieceBy g))
 reach-object r g c =
@@ -266,4 +287,7 @@ reach-object r g c =
     (Lent 64 (r .plan) args out × FullTree nodes order)
     (object-entry (r .plan) args out nodes order) (lends r 64 g (omega arith), tree)
     (object nodes order args out _ _ _ _ _ (r .run)
-    (record { piece = sends _ (countOf objects w) _ (r .plan); nodes-is = refl; order-is = refl }))
+    (record { piece = sends _ (countOf objects w) _ (r .plan); nodes-is = refl; order-is = refl })) (
+      ((bytes-zero nodesBytes, bytes-zero orderBytes), (given-bytes g (c .small), bytes-zero outBytes)),
+      r .lent,
+    )

@@ -5,16 +5,18 @@ use native.Mathlib.Nat.{add-zero, zero-add}
 use native.Mathlib.Omega.{arith}
 use mathlib.Core.Path.{_≡_, sym, _∙_, ap, subst}
 use mathlib.Core.Logic.{_↔_}
-use mathlib.Core.Bool.{Bool, true, false}
+use mathlib.Core.Bool.{Bool, true, false, cond}
 use mathlib.Core.List.{List, [], _∷_, _++_}
 use lib.ListN.{length}
+use lib.Dec.{ltb}
 use Rattle.words.specs.Lists.{listFrom, All}
 use Rattle.words.proofs.Runs.{from-snoc, length-from, all-from}
+use Rattle.words.proofs.Laws.{Bytes}
 use Rattle.plan.specs.Sections.{materials, planes, lights, objects}
 use Rattle.plan.specs.declared.Head.{Head}
 use Rattle.plan.specs.declared.Material.{Material}
 use Rattle.plan.specs.declared.QuadLight.{QuadLight}
-use Rattle.plan.specs.Records.{materialAt, lightIn}
+use Rattle.plan.specs.Records.{wordOf, materialAt, lightIn, headAt}
 use Rattle.plan.specs.Plan.{Piece, Plan, pieceAt, piecesFrom, countOf, planOf, seen, planIn}
 use Rattle.plan_test.specs.Tests.{cuttersOf, litNumber}
 use Rattle.plan_test.specs.Exact.{PieceOk, PlaceIs, PlacesAre, LightOk, CountsOk, SoundLit}
@@ -23,9 +25,10 @@ use Rattle.wire.specs.Lent.{planTable}
 use Rattle.promises.specs.Bytes.{planAt, FullPlan}
 use Rattle.promises.specs.Demand1.{Run}
 use Rattle.promises.proofs.Demand1.{demand-one}
+use Rattle.promises.proofs.Small.{Small, table-small}
 use Rattle.promises.proofs.Given.{headBy, pieceBy, rowsOf, piece-by}
-use Rattle.promises.proofs.Reached.{Reached, plainMaterial, reach-none, reach-material, reach-light, reach-plane}
-use Rattle.promises.proofs.Reached.{reach-object}
+use Rattle.promises.proofs.Reached.{Lends, Reached, plainMaterial, reach-none, reach-material, reach-light}
+use Rattle.promises.proofs.Reached.{reach-plane, reach-object}
 
 -- ---- piece k of a list of pieces: its place, and the room that it leaves
 module _ (among : Bool) (f : ℕ → Piece) where
@@ -52,12 +55,22 @@ fits : (among : Bool) (before : ℕ) (h : Head) → PlaceIs among before h → b
 fits true before h p l = omega arith
 fits false before h p l = omega arith
 
+rows-small : (w : List ℕ) → ((i : ℕ) → Small (wordOf w i)) → (r k : ℕ) → Small (rowsOf w r k)
+unfolding rowsOf
+rows-small w s r k = pick (ltb k 16) (s (16 * r + k)) (s (16 * (368 + headAt w (seen w) r .place) + k))
+  where
+    pick : (b : Bool) {x y : ℕ} → Small x → Small y → Small (cond b x y)
+    pick true p q = p
+    pick false p q = q
+
 -- ---- the pieces of a table, lent one after the other: `put` is the plan with a list of pieces
-module _ (among : Bool) (m : ℕ) (w : List ℕ) (a n : ℕ) (inside : a + n ≤ 1706) (put : List Piece → Plan)
+module _ (among : Bool) (m : ℕ) (w : List ℕ) (small : (i : ℕ) → Small (wordOf w i)) (a n : ℕ)
+    (inside : a + n ≤ 1706) (put : List Piece → Plan)
     (places : PlacesAre among 0 (listFrom (pieceAt w (seen w)) a n))
     (each : All (PieceOk among m) (listFrom (pieceAt w (seen w)) a n))
     (few : cuttersOf (listFrom (pieceAt w (seen w)) a n) ≤ 1024)
     (next : (os : List Piece) (g : ℕ → ℕ)
+    → ((i : ℕ) → Small (g i))
     → PieceOk among m (pieceBy g)
     → PlaceIs among (cuttersOf os) (headBy g)
     → length os < n
@@ -81,7 +94,7 @@ module _ (among : Bool) (m : ℕ) (w : List ℕ) (a n : ℕ) (inside : a + n ≤
       let cutters : g 2 ≡ o .head .cutters = ap (λ (x : Head). x .cutters) head in
       subst (λ (l : List Piece). Reached (put l))
       (ap (λ (x : Piece). os ++ (x ∷ [])) same ∙ sym (from-snoc f a k))
-      (next os g (rw same (all-from (PieceOk among m) f a n each k (omega arith)))
+      (next os g (rows-small w small (a + k)) (rw same (all-from (PieceOk among m) f a n each k (omega arith)))
       (subst (λ (x : Head). PlaceIs among (cuttersOf os) x) (sym head) at)
       (omega (arith, length-from f a k)) (omega arith) (refill k (omega arith) r))
 
@@ -104,13 +117,14 @@ fill-materials (suc m) h =
 pub record Remade (p : Plan) : Type 0 where
   pub plan : List ℕ
   pub run : Run plan
+  pub lent : Lends run
   pub full : FullPlan plan
   pub materials-as-many : length (planAt plan .materials) ≡ length (p .materials)
   pub planes-same : planAt plan .planes ≡ p .planes
   pub lights-same : planAt plan .lights ≡ p .lights
   pub objects-same : planAt plan .objects ≡ p .objects
 
-module _ (w : List ℕ) (s : SoundLit (planIn w)) where
+module _ (w : List ℕ) (small : (i : ℕ) → Small (wordOf w i)) (s : SoundLit (planIn w)) where
   abbrev p : Plan
   p = planIn w
 
@@ -133,11 +147,11 @@ module _ (w : List ℕ) (s : SoundLit (planIn w)) where
       let n : ℕ = countOf planes w in
       let room = s .solids .room in
       let most : n ≤ 16 = rw (length-from (pieceAt w (seen w)) 65 n) at (few .planes) in
-      refill true (length (p .materials)) w 65 n (omega arith) (λ os. planOfLists m os [] [])
+      refill true (length (p .materials)) w small 65 n (omega arith) (λ os. planOfLists m os [] [])
       (s .solids .planes .places) (s .solids .planes .each) (omega arith)
-      (λ os g ok at l part r.
+      (λ os g b ok at l part r.
       reach-plane r g
-      (record { ok = rw as-many ok; at = at; count = omega arith; room = omega arith })) n (omega arith)
+      (record { small = b; ok = rw as-many ok; at = at; count = omega arith; room = omega arith })) n (omega arith)
 
   fill-objects
       : (ls : List QuadLight)
@@ -148,11 +162,11 @@ module _ (w : List ℕ) (s : SoundLit (planIn w)) where
       let n : ℕ = countOf objects w in
       let room = s .solids .room in
       let most : n ≤ 256 = rw (length-from (pieceAt w (seen w)) 113 n) at (few .objects) in
-      refill false (length (p .materials)) w 113 n (omega arith) (λ os. planOfLists m (p .planes) ls os)
+      refill false (length (p .materials)) w small 113 n (omega arith) (λ os. planOfLists m (p .planes) ls os)
       (s .solids .objects .places) (s .solids .objects .each) (omega arith)
-      (λ os g ok at l part r.
+      (λ os g b ok at l part r.
       reach-object r g
-      (record { ok = rw as-many ok; at = at; count = omega arith; room = omega arith })) n (omega arith)
+      (record { small = b; ok = rw as-many ok; at = at; count = omega arith; room = omega arith })) n (omega arith)
 
   fill-lights
       : (ps : List Piece) (k : ℕ)
@@ -166,7 +180,7 @@ module _ (w : List ℕ) (s : SoundLit (planIn w)) where
       let most : n ≤ 16 = rw (length-from (lightIn (seen w)) 0 n) at (few .lights) in
       let ok = all-from LightOk (lightIn (seen w)) 0 n (s .lights) k (omega arith) in
       subst (λ (ls : List QuadLight). Reached (planOfLists m ps ls [])) (sym (from-snoc (lightIn (seen w)) 0 k))
-      (reach-light (fill-lights ps k (omega arith) r) w (81 + 2 * (0 + k)) (omega arith) ok
+      (reach-light (fill-lights ps k (omega arith) r) w (81 + 2 * (0 + k)) (omega arith) small ok
       (omega (arith, length-from (lightIn (seen w)) 0 k)))
 
   remade : Remade p
@@ -178,6 +192,7 @@ module _ (w : List ℕ) (s : SoundLit (planIn w)) where
       record {
         plan = r .plan;
         run = r .run;
+        lent = r .lent;
         full = r .full;
         materials-as-many = ap (λ (q : Plan). length (q .materials)) (r .is) ∙ as-many;
         planes-same = ap (λ (q : Plan). q .planes) (r .is);
@@ -185,8 +200,8 @@ module _ (w : List ℕ) (s : SoundLit (planIn w)) where
         objects-same = ap (λ (q : Plan). q .objects) (r .is);
       }
 
-pub passes-made : (plan : List ℕ) → SoundLit (planAt plan) → Remade (planAt plan)
-passes-made plan s = remade (planTable 0 plan []) s
+pub passes-made : (plan : List ℕ) → Bytes plan → SoundLit (planAt plan) → Remade (planAt plan)
+passes-made plan b s = remade (planTable 0 plan []) (table-small 0 plan [] b (λ k. omega arith)) s
 
 -- the test of a whole plan passes it exactly then
 sound-by
@@ -217,10 +232,10 @@ sound-by p q m a l o s =
       lights = rw l at (s .lights);
     }
 
-pub passes-exactly : (plan : List ℕ) → (litNumber (planAt plan) ≡ 0) ↔ Remade (planAt plan)
-passes-exactly plan =
+pub passes-exactly : (plan : List ℕ) → Bytes plan → (litNumber (planAt plan) ≡ 0) ↔ Remade (planAt plan)
+passes-exactly plan b =
     let e = lit-exact (planAt plan) in (
-      λ z. passes-made plan (e .0 z),
+      λ z. passes-made plan b (e .0 z),
       λ r.
           e .1
           (sound-by (planAt plan) (planAt (r .plan)) (r .materials-as-many) (r .planes-same) (r .lights-same)

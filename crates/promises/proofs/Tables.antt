@@ -156,7 +156,7 @@ pub relent-word
 relent-word need args need′ args′ plan i h = plan-word need plan args i h ∙ sym (plan-word need′ plan args′ i h)
 
 -- ---- zero bytes
-zeros : (k i : ℕ) → wordOf (replicate k 0) i ≡ 0
+pub zeros : (k i : ℕ) → wordOf (replicate k 0) i ≡ 0
 zeros k i =
     ⊎-elim
     (λ p. getD-replicate {A = ℕ} k i 0 0 p)
