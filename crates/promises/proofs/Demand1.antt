@@ -2,10 +2,13 @@
 -- and a run of entries makes a plan by entries. Assumes nothing.
 use Prim.Native.Nat.{ℕ, _<_}
 use native.Mathlib.Omega.{arith}
-use mathlib.Core.Path.{_≡_, sym, _∙_, subst}
+use mathlib.Core.Path.{_≡_, sym, _∙_, ap, subst}
+use mathlib.Core.Bool.{true, false}
 use mathlib.Core.List.{List, []}
+use lib.Dec.{eqb}
 use lib.ListN.{replicate, length-replicate, getD-replicate}
 use Rattle.words.specs.Lists.{listFrom}
+use Rattle.words.specs.Words.{sentWords}
 use Rattle.plan.specs.Sections.{planWords, tableWords, objects}
 use Rattle.plan.specs.Records.{wordOf}
 use Rattle.plan.specs.Plan.{Plan, piecesFrom, planOf}
@@ -15,15 +18,20 @@ use Rattle.plan_entry.specs.After as made
 use Rattle.plan_entry.specs.After.{Made}
 use Rattle.plan_entry.proofs.Entered.{plan-relent}
 use Rattle.plan_entry.proofs.Made.{made-lit}
+use Rattle.reply.specs.declared.Reply.{Reply}
+use Rattle.reply.specs.Reply.{replyOf, oneWord, refusedReply}
 use Rattle.wire.specs.Lent.{planTable}
 use Rattle.wire.specs.Sent.{cleared}
+use Rattle.viewer.specs.Entries.{EntrySent}
 use Rattle.promises.specs.Bytes.{planWith, planAt}
 use Rattle.promises.specs.Demand1.{Run, start}
 use Rattle.promises.specs.Demand1.{material, light, plane, object, Passes, emptyPlan, DemandOne}
+use Rattle.promises.specs.Demand1.{Answered, Dropped}
 use Rattle.promises.proofs.Tables.{table-size, front-same, relent-word, zero-plan}
 use Rattle.promises.proofs.Applies.{entry-sends}
 use Rattle.promises.proofs.Entries.{refused, enters, still-made, material-entry, light-entry, plane-entry}
 use Rattle.promises.proofs.Entries.{object-entry}
+use Rattle.promises.proofs.Taken.{materials-of, lights-of, pieces-of}
 
 -- ---- plans made of zero bytes
 pub run-made : {plan : List ℕ} → Run plan → Made (planTable 0 plan [])
@@ -72,18 +80,47 @@ runs-pass {plan} r =
       λ need args. passes (planWith need plan args) (subst SoundLit (sym (alone need plan args (s .solids))) s),
     )
 
-pub demand-one : DemandOne
+-- ---- the answer, and the tree
+answered
+    : {number index k : ℕ} {left plan out : List ℕ} {n : ℕ} {plan′ out′ : List ℕ}
+    → EntrySent number index left plan out n plan′ out′
+    → k ≡ index
+    → Answered k out n out′
+unfolding replyOf
+answered {number} {index} {k} {left} {plan} {out} {n} {plan′} {out′} s c =
+    let e = entry-sends s in
+    let is = s .sent .out-is in
+    record {
+      done = λ z. is ∙ rw (sym e, z, c);
+      refused = λ h.
+          let r : replyOf number (oneWord index) ≡ refusedReply n = rw (sym e) (refused n _ _ h) in
+          is ∙ ap (λ (a : Reply). sentWords out (a .words)) r;
+    }
+
+dropped
+    : {number n full : ℕ} {table table′ : List ℕ}
+    → n ≡ number
+    → table′ ≡ cleared (eqb number 0) table full
+    → Dropped n full table table′
 unfolding cleared
+dropped {number} {n} {full} {table} e is =
+    record { dropped = λ z. is ∙ rw (sym e, z); kept = λ h. is ∙ rw (sym e) (refused n _ table h) }
+
+pub demand-one : DemandOne
 demand-one =
     record {
-      material-enters = λ plan args out n plan′ out′ e. enters (material-entry plan args out) e;
-      light-enters = λ plan args out n plan′ out′ e. enters (light-entry plan args out) e;
-      plane-enters = λ plan args out n plan′ out′ e. enters (plane-entry plan args out) e;
+      material-enters = λ plan args out n plan′ out′ e.
+          let w = planTable 20 plan args in (enters (material-entry plan args out) e, answered e (materials-of w));
+      light-enters = λ plan args out n plan′ out′ e.
+          let w = planTable 60 plan args in (enters (light-entry plan args out) e, answered e (lights-of w));
+      plane-enters = λ plan args out n plan′ out′ e.
+          let w = planTable 64 plan args in (enters (plane-entry plan args out) e, answered e (pieces-of true w));
       object-enters = λ plan nodes order args out n plan′ nodes′ order′ out′ e.
-          enters (object-entry plan args out nodes order) (e .piece);
-      tree-kept = λ plan nodes order args out n plan′ nodes′ order′ out′ e h.
-          let g = subst (λ (k : ℕ). 0 < k) (entry-sends (e .piece)) h in
-          (e .nodes-is ∙ refused _ _ nodes g, e .order-is ∙ refused _ _ order g);
+          let w = planTable 64 plan args in
+          let i = entry-sends (e .piece) in (
+            enters (object-entry plan args out nodes order) (e .piece),
+            (answered (e .piece) (pieces-of false w), (dropped i (e .nodes-is), dropped i (e .order-is))),
+          );
       zero-bytes = zero-bytes;
       alone = alone;
       runs-pass = runs-pass;

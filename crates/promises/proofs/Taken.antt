@@ -81,11 +81,11 @@ pub materials-of : (w : List ℕ) → length (planIn w .materials) ≡ countOf m
 unfolding planOf
 materials-of w = length-from (materialAt (seen w)) 1 (countOf materials w)
 
-lights-of : (w : List ℕ) → length (planIn w .lights) ≡ countOf lights w
+pub lights-of : (w : List ℕ) → length (planIn w .lights) ≡ countOf lights w
 unfolding planOf
 lights-of w = length-from (lightIn (seen w)) 0 (countOf lights w)
 
-pieces-of : (among : Bool) (w : List ℕ) → length (listOf among (planIn w)) ≡ countOf (sectionOf among) w
+pub pieces-of : (among : Bool) (w : List ℕ) → length (listOf among (planIn w)) ≡ countOf (sectionOf among) w
 unfolding planOf piecesFrom
 pieces-of true w = length-from (pieceAt w (seen w)) 65 (countOf planes w)
 pieces-of false w = length-from (pieceAt w (seen w)) 113 (countOf objects w)

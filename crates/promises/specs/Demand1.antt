@@ -10,6 +10,7 @@ use lib.Dec.{T}
 use lib.ListN.{length, replicate}
 use Rattle.scalar.specs.F32.{f1}
 use Rattle.words.specs.Lists.{All}
+use Rattle.words.specs.Words.{sentWords}
 use Rattle.refusals.specs.Ranges.{upTo, withinUpTo}
 use Rattle.plan.specs.Sections.{materials, lights, cutsMost, cutterPlaces, argsRow}
 use Rattle.plan.specs.declared.Material.{Material}
@@ -20,7 +21,9 @@ use Rattle.plan_test.specs.Tests.{countsOk, cuttersOf, objectsNumber, solidsOf,
 use Rattle.plan_test.specs.Exact.{CutterOk, HeadOk, LightOk, CountsOk, SoundSolids, SoundLit}
 use Rattle.plan_entry.specs.Entry.{argCuts, sectionOf, newPlace}
 use Rattle.plan_entry.specs.After.{givenPiece, withOne}
-use Rattle.wire.specs.Lent.{planBytes, outBytes, planTable}
+use Rattle.reply.specs.Reply.{oneWord, refusedReply}
+use Rattle.wire.specs.Lent.{nodesBytes, orderBytes, outBytes, planTable}
+use Rattle.wire.specs.Sent.{clearedFront}
 use Rattle.viewer.specs.Entries.{MaterialSent, LightSent, PlaneSent, ObjectSent}
 use Rattle.promises.specs.Bytes.{planWith, planAt, FullPlan, FullTree}
 
@@ -68,6 +71,16 @@ pub record Enters (Taken : Type 0) (need : ℕ) (plan args : List ℕ) (n : ℕ)
     pub entered : n ≡ 0 → planWith need plan′ args ≡ after
     pub kept : 0 < n → plan′ ≡ plan
 
+-- the answer: the number of what entered, or a refusal's
+pub record Answered (index : ℕ) (out : List ℕ) (n : ℕ) (out′ : List ℕ) : Type 0 where
+  pub done : n ≡ 0 → out′ ≡ sentWords out (oneWord index .words)
+  pub refused : 0 < n → out′ ≡ sentWords out (refusedReply n .words)
+
+-- a tree stands for the objects as they were: it is dropped with the change, and stays without
+pub record Dropped (n full : ℕ) (table table′ : List ℕ) : Type 0 where
+  pub dropped : n ≡ 0 → table′ ≡ clearedFront table full
+  pub kept : 0 < n → table′ ≡ table
+
 -- the piece of the arguments, its cutters in the next free places of its list
 abbrev pub entering : Bool → List ℕ → Piece
 entering among w = givenPiece w (newPlace among (solidsOf (planIn w)) (argCuts w))
@@ -101,25 +114,26 @@ pub record DemandOne : Type 0 where
       → let w = planTable 20 plan args in
       Enters (Lent 20 plan args out × MaterialTaken w) 20 plan args n plan′
       (withMaterial (planIn w) (materialAt (seen w) argsRow))
+      × Answered (length (planIn w .materials)) out n out′
   pub light-enters : (plan args out : List ℕ) (n : ℕ) (plan′ out′ : List ℕ)
       → LightSent plan args out n plan′ out′
       → let w = planTable 60 plan args in
       Enters (Lent 60 plan args out × LightTaken w) 60 plan args n plan′
       (withLight (planIn w) (lightAt (seen w) argsRow))
+      × Answered (length (planIn w .lights)) out n out′
   pub plane-enters : (plan args out : List ℕ) (n : ℕ) (plan′ out′ : List ℕ)
       → PlaneSent plan args out n plan′ out′
       → let w = planTable 64 plan args in
       Enters (Lent 64 plan args out × PieceTaken true (length args) w) 64 plan args n plan′
       (withOne true (planIn w) (entering true w))
+      × Answered (length (planIn w .planes)) out n out′
   pub object-enters : (plan nodes order args out : List ℕ) (n : ℕ) (plan′ nodes′ order′ out′ : List ℕ)
       → ObjectSent plan nodes order args out n plan′ nodes′ order′ out′
       → let w = planTable 64 plan args in
       Enters ((Lent 64 plan args out × FullTree nodes order) × PieceTaken false (length args) w) 64 plan args n plan′
       (withOne false (planIn w) (entering false w))
-  -- a refused object leaves the tree too
-  pub tree-kept : (plan nodes order args out : List ℕ) (n : ℕ) (plan′ nodes′ order′ out′ : List ℕ)
-      → ObjectSent plan nodes order args out n plan′ nodes′ order′ out′
-      → 0 < n → (nodes′ ≡ nodes) × (order′ ≡ order)
+      × (Answered (length (planIn w .objects)) out n out′
+      × (Dropped n nodesBytes nodes nodes′ × Dropped n orderBytes order order′))
   pub zero-bytes : (k : ℕ) → planAt (replicate k 0) ≡ emptyPlan
   -- a sound plan is the same whatever is lent after it
   pub alone : (need : ℕ) (plan args : List ℕ) → SoundSolids (planAt plan) → planWith need plan args ≡ planAt plan
