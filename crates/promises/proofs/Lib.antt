@@ -1,5 +1,4 @@
 pub mod Rows
-pub mod Standing
 pub mod Unique
 pub mod Lowest
 pub mod Applies
@@ -13,3 +12,13 @@ pub mod Small
 pub mod Reached
 pub mod Witness
 pub mod Remade
+pub mod Loaded
+pub mod Objects
+pub mod SameTree
+pub mod Numbers
+pub mod Offer
+pub mod Build
+pub mod Places
+pub mod Standing
+pub mod Eight
+pub mod Demand3

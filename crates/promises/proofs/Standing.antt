@@ -1,4 +1,4 @@
--- A call by the tree that is not refused searches an accepted tree only: by exact tests. Assumes nothing.
+-- A call by the tree that is not refused searches an accepted tree only: its tests are exact. Assumes nothing.
 use Prim.Native.Nat.{ℕ, zero, suc, _≤_}
 use native.Mathlib.Omega.{arith}
 use mathlib.Core.Path.{_≡_, refl, sym, _∙_, subst}
@@ -17,7 +17,7 @@ use Rattle.refusals.specs.Ranges.{greatest, farthest, within}
 use Rattle.refusals.proofs.Lowest.{unless-zero, lower-zero}
 use Rattle.plan.specs.declared.DistHit.{DistHit}
 use Rattle.plan.specs.Sections.{tableWords, objects}
-use Rattle.plan.specs.Plan.{Piece, countOf, planOf}
+use Rattle.plan.specs.Plan.{Piece, countOf, planOf, seen, planIn}
 use Rattle.plan.specs.Nearest.{hitOf, closer, nearest, nothing}
 use Rattle.plan_test.specs.Tests.{objectsNumber, solidsOf, litNumber}
 use Rattle.plan_test.proofs.Exact.{objects-exact, solids-exact, lit-exact}
@@ -25,11 +25,10 @@ use Rattle.float_order.proofs.Order.{le-right, lt-left, number-eq}
 use Rattle.bvh_boxes.specs.Boxes.{boxesOf}
 use Rattle.bvh_boxes.proofs.Lists.{boxes-length, box-count}
 use Rattle.bvh_rules.specs.Nodes.{nodesOf, orderOf}
-use Rattle.bvh_rules.specs.Rules.{Tree, Accepted, MeetsRules}
+use Rattle.bvh_rules.specs.Rules.{Tree, weight, Once, Accepted, MeetsRules}
 use Rattle.bvh_rules.proofs.Lists.{nodes-length}
 use Rattle.bvh_rules.proofs.Exact.{standing-exact}
 use Rattle.bvh_search.specs.declared.Searched.{Searched}
-use Rattle.bvh_search.specs.Search.{searched}
 use Rattle.bvh_search.specs.Field.{hitBy, fieldBy}
 use Rattle.bvh_search.specs.Demand.{Demand}
 use Rattle.bvh_search.proofs.Demand.{demand-three, search-empty}
@@ -38,16 +37,8 @@ use Rattle.reply.specs.declared.Reply.{Reply}
 use Rattle.reply.specs.Reply.{refusedReply, replyOf}
 use Rattle.bemitondry_ask.specs.Asks.{argVec, argFloat, treeNumber, queryNumber, queryBound, solidsAsk}
 use Rattle.bemitondry_light.specs.Light.{panels, litAsk}
-
--- the tree that a call's table holds for its plan's objects
-abbrev pub AcceptedIn : List ℕ → List Float → Tree → Type 0
-AcceptedIn w f t = Accepted (nodesOf w) (nodesOf f) (orderOf w) (boxesOf (planOf w f)) t
-
--- with no objects the bound comes back; else one accepted tree stands, and the answer meets the demand on it
-abbrev pub Stood : List ℕ → List Float → Vec3 → DistHit → Searched → Type 0
-Stood w f p bound a =
-    ((countOf objects w ≡ 0) × (a ≡ searched bound 0 0 true))
-    ⊎ ((t : Tree) × (AcceptedIn w f t × Demand (orderOf w) w f p t bound a))
+use Rattle.promises.specs.Demand3.{Searches, Answers, FieldAnswers}
+use Rattle.promises.proofs.Places.{order-onto, evaluates-once}
 
 finite-number : (x : Float) → magnitude x greatest ≡ true → T (eq x x)
 unfolding magnitude between
@@ -57,30 +48,44 @@ finite-number x e =
     subst T (sym (number-eq x)) (le-right (neg greatest) x (passes low (p .0)))
 
 -- ---- a search from a bound that is a number, where the standing tree gets 0
-module _ (w : List ℕ) (f : List Float) (long : length w ≡ tableWords) where
+module _ (w : List ℕ) (long : length w ≡ tableWords) where
+  searches
+      : (p : Vec3) (bound : DistHit) (a : Searched) (t : Tree)
+      → Accepted (nodesOf w) (nodesOf (seen w)) (orderOf w) (boxesOf (planIn w)) t
+      → Demand (orderOf w) w (seen w) p t bound a
+      → Searches w p bound a
+  searches p bound a t h d =
+      let all : weight t ≡ countOf objects w = h .holds .all ∙ box-count w (seen w) in
+      let c : Once (orderOf w) (weight t) = rw (h .holds .all) (h .holds .once) in
+      record {
+        tree = t;
+        accepted = h;
+        demand = d;
+        each = λ k l.
+            let at = order-onto (orderOf w) (weight t) c k (omega arith) in
+            (at .0, omega (arith, at .1 .0), at .1 .1, d .over (at .0) (at .1 .0));
+        once = rw (d .walked) (evaluates-once (orderOf w) w (seen w) p t bound c);
+      }
+
   stood
-      : length (planOf w f .objects) ≤ 256
-      → treeNumber 1 w f ≡ 0
+      : length (planIn w .objects) ≤ 256
+      → treeNumber 1 w (seen w) ≡ 0
       → (p : Vec3) (bound : DistHit)
       → T (eq (bound .d) (bound .d))
-      → Stood w f p bound (hitBy 1 w f p bound)
+      → Answers w p bound (hitBy 1 w (seen w) p bound)
   unfolding hitBy treeNumber MeetsRules
   stood many e p bound n =
-      let bs = boxesOf (planOf w f) in
-      let few : length bs ≤ 256 = omega (arith, boxes-length (planOf w f)) in
+      let f = seen w in
+      let bs = boxesOf (planIn w) in
+      let few : length bs ≤ 256 = omega (arith, boxes-length (planIn w)) in
       let nodes = nodes-length w long in
       ⊎-elim
       (λ none.
       let z : countOf objects w ≡ 0 = sym (box-count w f) ∙ none in
       inl (z, search-empty (nodesOf w) (nodesOf f) (orderOf w) w f p bound z))
       (λ t.
-      inr (
-        t .0,
-        (
-          t .1,
-          demand-three (nodesOf w) (nodesOf f) (orderOf w) w f bs (t .0) nodes few (box-count w f) (t .1) p bound n,
-        ),
-      ))
+      inr (searches p bound (hitBy 1 w f p bound) (t .0) (t .1)
+      (demand-three (nodesOf w) (nodesOf f) (orderOf w) w f bs (t .0) nodes few (box-count w f) (t .1) p bound n)))
       (standing-exact (nodesOf w) (nodesOf f) (orderOf w) bs nodes few .0 e)
 
 -- ---- the planes' nearest is a number to start from
@@ -105,70 +110,57 @@ unfolding eq ofBits
 nothing-number = tt
 
 -- ---- the calls
--- what the objects' search starts from in a field: the planes in order
-abbrev pub planesHit : List ℕ → List Float → Vec3 → DistHit
-planesHit w f p = nearest (planOf w f .planes) p nothing
-
 -- where a call's number is 0: a query of the point and the bound in its arguments
-module _ (before : ℕ) (w : List ℕ) (f : List Float) (long : length w ≡ tableWords) where
+module _ (before : ℕ) (w : List ℕ) (long : length w ≡ tableWords) where
+  abbrev f : List Float
+  f = seen w
+
   pub query-stands
-      : lower (queryNumber before w f) (treeNumber 1 w f) ≡ 0
-      → Stood w f (argVec f 0) (queryBound w f) (hitBy 1 w f (argVec f 0) (queryBound w f))
+      : lower (queryNumber before w (seen w)) (treeNumber 1 w (seen w)) ≡ 0
+      → Answers w (argVec (seen w) 0) (queryBound w (seen w))
+      (hitBy 1 w (seen w) (argVec (seen w) 0) (queryBound w (seen w)))
   unfolding queryNumber
   query-stands answered =
       let near = within (argVec f 0) farthest in
       let finite = magnitude (argFloat f 3) greatest in
-      let number = objectsNumber (planOf w f) in
+      let number = objectsNumber (planIn w) in
       let a = lower-zero (queryNumber before w f) (treeNumber 1 w f) .0 answered in
       let b = lower-zero before (lower (unless 1 (near && finite)) number) .0 (a .0) in
       let c = lower-zero (unless 1 (near && finite)) number .0 (b .1) in
       let d = and-eq-true-iff near finite .0 (unless-zero 0 (near && finite) .0 (c .0)) in
-      let few = objects-exact (planOf w f) .0 (c .1) .counts .objects in
-      stood w f long few (a .1) (argVec f 0) (queryBound w f) (finite-number (argFloat f 3) (d .1))
+      let few = objects-exact (planIn w) .0 (c .1) .counts .objects in
+      stood w long few (a .1) (argVec f 0) (queryBound w f) (finite-number (argFloat f 3) (d .1))
 
   -- at every point whatever, the field of a call whose number is 0 is such a search from the planes' nearest
-  pub field-stands
-      : length (planOf w f .objects) ≤ 256
-      → treeNumber 1 w f ≡ 0
-      → (p : Vec3)
-      → (fieldBy 1 w f p ≡ hitBy 1 w f p (planesHit w f p) .hit)
-      × Stood w f p (planesHit w f p) (hitBy 1 w f p (planesHit w f p))
+  field-stands : length (planIn w .objects) ≤ 256 → treeNumber 1 w (seen w) ≡ 0 → FieldAnswers w
   unfolding fieldBy
   field-stands few e p =
-      let n = nearest-number (planOf w f .planes) p nothing nothing-number in
-      (refl, stood w f long few e p (planesHit w f p) n)
+      let from = nearest (planIn w .planes) p nothing in
+      let n = nearest-number (planIn w .planes) p nothing nothing-number in
+      (hitBy 1 w f p from, refl, stood w long few e p from n)
 
   -- `dist_mat`, `trace` and `soft_shadow`
   pub solids-stand
-      : (given : Bool)
-      → lower (solidsAsk before given w f) (treeNumber 1 w f) ≡ 0
-      → (p : Vec3)
-      → (fieldBy 1 w f p ≡ hitBy 1 w f p (planesHit w f p) .hit)
-      × Stood w f p (planesHit w f p) (hitBy 1 w f p (planesHit w f p))
+      : (given : Bool) → lower (solidsAsk before given w (seen w)) (treeNumber 1 w (seen w)) ≡ 0 → FieldAnswers w
   unfolding solidsAsk
   solids-stand given answered =
-      let number = solidsOf (planOf w f) .number in
+      let number = solidsOf (planIn w) .number in
       let a = lower-zero (solidsAsk before given w f) (treeNumber 1 w f) .0 answered in
       let b = lower-zero before (lower (unless 1 given) number) .0 (a .0) in
       let c = lower-zero (unless 1 given) number .0 (b .1) in
-      field-stands (solids-exact (planOf w f) .0 (c .1) .counts .objects) (a .1)
+      field-stands (solids-exact (planIn w) .0 (c .1) .counts .objects) (a .1)
 
   -- `direct` and `direct_diffuse`, asked at q
-  pub lit-stand
-      : (given : ℕ) (q : Vec3)
-      → litAsk before given 1 q w f ≡ 0
-      → (p : Vec3)
-      → (fieldBy 1 w f p ≡ hitBy 1 w f p (planesHit w f p) .hit)
-      × Stood w f p (planesHit w f p) (hitBy 1 w f p (planesHit w f p))
+  pub lit-stand : (given : ℕ) (q : Vec3) → litAsk before given 1 q w (seen w) ≡ 0 → FieldAnswers w
   unfolding litAsk
   lit-stand given q answered =
-      let number = litNumber (planOf w f) in
+      let number = litNumber (planIn w) in
       let plan = lower before (lower given number) in
       let a = lower-zero (lower plan (treeNumber 1 w f)) (panelsNumber q (panels w f)) .0 answered in
       let b = lower-zero plan (treeNumber 1 w f) .0 (a .0) in
       let c = lower-zero before (lower given number) .0 (b .0) in
       let d = lower-zero given number .0 (c .1) in
-      field-stands (lit-exact (planOf w f) .0 (d .1) .solids .counts .objects) (b .1)
+      field-stands (lit-exact (planIn w) .0 (d .1) .solids .counts .objects) (b .1)
 
 -- the lights that such a call goes through are all of the plan's
 pub panels-all : (w : List ℕ) (f : List Float) → litNumber (planOf w f) ≡ 0 → panels w f ≡ planOf w f .lights

@@ -27,7 +27,6 @@ use Rattle.bvh_search.specs.declared.Searched.{Searched}
 use Rattle.bvh_search.specs.Search.{searched}
 use Rattle.bvh_search.specs.Field.{fieldBy}
 use Rattle.bvh_search.specs.Demand.{In, Over, Demand}
-use Rattle.reply.specs.declared.Reply.{Reply}
 use Rattle.reply.specs.Reply.{oneWord}
 use Rattle.bemitondry_ask.specs.Asks.{argVec, queryBound, searchedReply, queryReply, distMatReply}
 use Rattle.bemitondry_ask.specs.Marches.{traceReply, shadowReply}
@@ -46,9 +45,8 @@ pub record OfferKeeps (plan given ranks out : List ℕ) (n : ℕ) (nodes′ orde
   pub bad : (n ≡ badTree) ↔ ((0 < objectCount plan) × ((t : Tree) → HoldsTree plan given ranks t → ⊥))
   -- what stands after it meets the rules, and is the tree that was offered; its number of nodes is sent
   pub stands : n ≡ 0 → TreeRules plan nodes′ order′
-  pub same : n ≡ 0 → (t : Tree) → AcceptedTree plan given ranks t → AcceptedTree plan nodes′ order′ t
-  pub size-sent : n ≡ 0 → (t : Tree) → AcceptedTree plan given ranks t
-      → out′ ≡ sentWords out (oneWord (size t) .words)
+  pub same : (t : Tree) → AcceptedTree plan given ranks t → AcceptedTree plan nodes′ order′ t
+  pub size-sent : (t : Tree) → AcceptedTree plan given ranks t → out′ ≡ sentWords out (oneWord (size t) .words)
   pub none-sent : objectCount plan ≡ 0 → out′ ≡ sentWords out (oneWord 0 .words)
 
 pub record BuildKeeps (plan out : List ℕ) (n : ℕ) (nodes′ order′ out′ : List ℕ) : Type 0 where
@@ -56,6 +54,9 @@ pub record BuildKeeps (plan out : List ℕ) (n : ℕ) (nodes′ order′ out′ 
   pub deep : (n ≡ tooDeep) ↔ ((0 < objectCount plan) × (63 < depth (builtOf (planAt plan) .tree)))
   pub stands : n ≡ 0 → TreeRules plan nodes′ order′
   pub same : n ≡ 0 → 0 < objectCount plan → AcceptedTree plan nodes′ order′ (builtOf (planAt plan) .tree)
+  pub size-sent : n ≡ 0 → 0 < objectCount plan
+      → out′ ≡ sentWords out (oneWord (size (builtOf (planAt plan) .tree)) .words)
+  pub none-sent : objectCount plan ≡ 0 → out′ ≡ sentWords out (oneWord 0 .words)
 
 -- ---- a search from a bound, on a call's table w
 abbrev pub Distinct : List ℕ → Type 0
@@ -66,10 +67,10 @@ pub record Searches (w : List ℕ) (p : Vec3) (bound : DistHit) (a : Searched) :
   pub tree : Tree
   pub accepted : Accepted (nodesOf w) (nodesOf (seen w)) (orderOf w) (boxesOf (planIn w)) tree
   pub demand : Demand (orderOf w) w (seen w) p tree bound a
-  -- every object k stands at a place of the order that was evaluated, or lies under a box passed over
+  -- every object k stands at a place i of the order that was evaluated, or that lies under a box passed over
   pub each : (k : ℕ) → k < countOf objects w
-      → (i : ℕ) × ((wordOf (orderOf w) i ≡ k)
-      × (In i (demand .walk .seen) ⊎ Over (orderOf w) w (seen w) p (a .hit .d) (demand .walk .passed) i))
+      → (i : ℕ) × (i < countOf objects w) × (wordOf (orderOf w) i ≡ k)
+      × (In i (demand .walk .seen) ⊎ Over (orderOf w) w (seen w) p (a .hit .d) (demand .walk .passed) i)
   -- and none is evaluated twice
   pub once : Distinct (map (wordOf (orderOf w)) (demand .walk .seen))
 
@@ -81,45 +82,35 @@ Answers w p bound a = ((countOf objects w ≡ 0) × (a ≡ searched bound 0 0 tr
 abbrev pub FieldAnswers : List ℕ → Type 0
 FieldAnswers w =
     (p : Vec3) → (a : Searched)
-    × ((fieldBy 1 w (seen w) p ≡ a .hit) × Answers w p (nearest (planIn w .planes) p nothing) a)
+    × (fieldBy 1 w (seen w) p ≡ a .hit) × Answers w p (nearest (planIn w .planes) p nothing) a
 
--- ---- the calls by the tree, each with the bytes of arguments that it reads
-pub record Call : Type 0 where
-  pub ask : Ask
-  pub need : ℕ
+-- ---- the calls by the tree: those that work out the field, and the query of objects alone
+abbrev pub fieldCalls : List Ask
+fieldCalls = distMatReply ∷ traceReply ∷ shadowReply ∷ directReply ∷ directDiffuseReply ∷ []
 
-abbrev pub fieldCalls : List Call
-fieldCalls =
-    record { ask = distMatReply; need = 12 } ∷ record { ask = traceReply; need = 32 }
-    ∷ record { ask = shadowReply; need = 36 } ∷ record { ask = directReply; need = 56 }
-    ∷ record { ask = directDiffuseReply; need = 36 } ∷ []
+abbrev pub treeCalls : List Ask
+treeCalls = queryReply ∷ fieldCalls
 
-abbrev pub treeCalls : List Call
-treeCalls = record { ask = queryReply; need = 20 } ∷ fieldCalls
-
--- ---- the demand
+-- ---- the demand, for every number `need` of bytes of arguments that a call reads
 pub record DemandThree : Type 0 where
   pub offer : (plan nodes order given ranks out : List ℕ) (n : ℕ) (nodes′ order′ out′ : List ℕ)
       → FullPlan plan → FullTree nodes order → FullTree given ranks → outBytes ≤ length out
-      → SoundObjects (planAt plan)
-      → OfferSent plan nodes order given ranks out n nodes′ order′ out′
+      → SoundObjects (planAt plan) → OfferSent plan nodes order given ranks out n nodes′ order′ out′
       → OfferKeeps plan given ranks out n nodes′ order′ out′
   pub build : (plan nodes order out : List ℕ) (n : ℕ) (nodes′ order′ out′ : List ℕ)
       → FullPlan plan → FullTree nodes order → outBytes ≤ length out
-      → SoundObjects (planAt plan)
-      → BuildSent plan nodes order out n nodes′ order′ out′
+      → SoundObjects (planAt plan) → BuildSent plan nodes order out n nodes′ order′ out′
       → BuildKeeps plan out n nodes′ order′ out′
   -- while the objects are those for which a tree meets the rules, no call by the tree sends 8
-  pub standing : (made plan nodes order : List ℕ)
+  pub standing : (made plan nodes order args : List ℕ) (need out : ℕ)
       → FullTree nodes order → SoundObjects (planAt made) → TreeRules made nodes order
       → planAt plan .objects ≡ planAt made .objects
-      → All (λ (c : Call). (args : List ℕ) (out : ℕ)
-      → askReply (c .ask) (c .need) plan nodes order 1 args out .number ≡ noTree → ⊥) treeCalls
-  pub query : (plan nodes order args out : List ℕ) (n : ℕ) (out′ : List ℕ)
-      → Sent (askReply queryReply 20 plan nodes order 1 args (length out)) out n out′ → n ≡ 0
-      → let w = askTable 20 plan nodes order 1 args in
-      (a : Searched) × ((out′ ≡ sentWords out (searchedReply a .words))
-      × Answers w (argVec (seen w) 0) (queryBound w (seen w)) a)
-  pub fields : All (λ (c : Call). (plan nodes order args : List ℕ) (out : ℕ)
-      → askReply (c .ask) (c .need) plan nodes order 1 args out .number ≡ 0
-      → FieldAnswers (askTable (c .need) plan nodes order 1 args)) fieldCalls
+      → All (λ (ask : Ask). askReply ask need plan nodes order 1 args out .number ≡ noTree → ⊥) treeCalls
+  pub query : (plan nodes order args out out′ : List ℕ) (need : ℕ)
+      → Sent (askReply queryReply need plan nodes order 1 args (length out)) out 0 out′
+      → let w = askTable need plan nodes order 1 args in
+      (a : Searched) × (out′ ≡ sentWords out (searchedReply a .words))
+      × Answers w (argVec (seen w) 0) (queryBound w (seen w)) a
+  pub fields : (plan nodes order args : List ℕ) (need out : ℕ)
+      → All (λ (ask : Ask). askReply ask need plan nodes order 1 args out .number ≡ 0
+      → FieldAnswers (askTable need plan nodes order 1 args)) fieldCalls
