@@ -15,7 +15,9 @@ added-as : (number index : ℕ) → addedReply (addedOf number index) ≡ replyO
 unfolding addedReply addedOf replyOf
 added-as number index = go (eqb number 0)
   where
-    go : (b : Bool) → addedReply (cond b (Done index) (Refused number)) ≡ cond b (oneWord index) (refusedReply number)
+    go
+        : (b : Bool) → addedReply (cond b (Done index) (Refused number)) ≡ cond b (oneWord index)
+        (refusedReply number)
     go true = refl
     go false = refl
 

@@ -33,7 +33,8 @@ use Rattle.bvh_build.specs.Inside.Lays.{Builds}
 use Rattle.bvh_build.proofs.Meets.{built-size}
 use Rattle.reply.specs.declared.Reply.{Reply}
 use Rattle.reply.specs.Reply.{refusedReply, oneWord, replyOf}
-use Rattle.bemitondry_tree.specs.Trees.{noNodes, noOrder, buildNumber, BuildLeaves, judgedTree, offeredTree, offerNumber, sizeIn, frontWord, OfferLeaves}
+use Rattle.bemitondry_tree.specs.Trees.{noNodes, noOrder, buildNumber, BuildLeaves, judgedTree, offeredTree}
+use Rattle.bemitondry_tree.specs.Trees.{offerNumber, sizeIn, frontWord, OfferLeaves}
 
 few-objects : (p : Plan) → objectsNumber p ≡ 0 → length (p .objects) ≤ 256
 few-objects p e = objects-exact p .0 e .counts .objects
@@ -70,7 +71,8 @@ module _ (before : ℕ) (p : Plan) where
   of-broken e = rw (ne-eqb _ 0 e)
 
   module _ (o n : ℕ) (nw ow : List ℕ) (b : Built) (nw′ ow′ : List ℕ) (u : ℕ) (eo : o ≡ objectsNumber p) (z : o ≡ 0)
-      (B : length (p .objects) ≤ 256 → Builds p nw ow b nw′ ow′) (eu : u ≡ unless 7 (b .low)) (en : n ≡ lower before u) where
+      (B : length (p .objects) ≤ 256 → Builds p nw ow b nw′ ow′) (eu : u ≡ unless 7 (b .low))
+      (en : n ≡ lower before u) where
     sound : objectsNumber p ≡ 0
     sound = sym eo ∙ z
 
@@ -85,7 +87,8 @@ module _ (before : ℕ) (p : Plan) where
         → BuildLeaves before p r nw′ ow′
     builds a b′ k r ln lo zn zo e ek er =
         let zero = sym number ∙ e in
-        let size : k ≡ sizeOf p = ek ∙ ap low32 (built .next-is) ∙ fits-word (sizeOf p) (built-size p (few-objects p sound)) in
+        let size : k ≡ sizeOf p = ek ∙ ap low32 (built .next-is) ∙ fits-word (sizeOf p)
+        (built-size p (few-objects p sound)) in
         record {
           reply = replied _ r _ zero (er ∙ ap oneWord size);
           nodes = written _ nw′ _ _ zero (built .nodes-are ∙ ap (nodesWith p) (cleared nw a 4599 ln zn));
@@ -102,7 +105,9 @@ module _ (before : ℕ) (p : Plan) where
           order = zeroed n _ ow″ _ _ number e (cleared ow″ b′ 256 lo zo);
         }
 
-  pub builds-not : (o n : ℕ) (nw ow : List ℕ) (a b′ : ℕ) (r : Reply) → o ≡ objectsNumber p → (o ≡ 0 → ⊥) → n ≡ lower before o
+  pub builds-not
+      : (o n : ℕ) (nw ow : List ℕ) (a b′ : ℕ) (r : Reply) → o ≡ objectsNumber p → (o ≡ 0 → ⊥)
+      → n ≡ lower before o
       → a ≡ 4599 → b′ ≡ 256 → nw ≡ replicate a 0 → ow ≡ replicate b′ 0 → r ≡ refusedReply n
       → BuildLeaves before p r nw ow
   builds-not o n nw ow a b′ r eo z en ln lo zn zo er =
@@ -115,7 +120,9 @@ module _ (before : ℕ) (p : Plan) where
       }
 
 -- ---- an offer
-judge-none : (w : List ℕ) (f : List Float) (o : List ℕ) (bs : List Aabb) → eqb (length bs) 0 ≡ true → judgeOf 64 w f o bs ≡ Good 0 0
+judge-none
+    : (w : List ℕ) (f : List Float) (o : List ℕ) (bs : List Aabb) → eqb (length bs) 0 ≡ true
+    → judgeOf 64 w f o bs ≡ Good 0 0
 unfolding judgeOf
 judge-none w f o bs e = rw e
 
@@ -130,21 +137,31 @@ module _ (w : List ℕ) (f : List Float) (long : length w ≡ 27296) (sound : ob
       few : length bs ≤ 256
       few = omega (arith, boxes-length (planOf w f), few-objects (planOf w f) sound)
 
-      go : (b : Bool) → eqb (length bs) 0 ≡ b → (s : Sub) → judgeOf 64 (nodesOf w) (nodesOf f) (orderOf w) bs ≡ s → sizeIn s ≤ 511
+      go
+          : (b : Bool) → eqb (length bs) 0 ≡ b → (s : Sub)
+          → judgeOf 64 (nodesOf w) (nodesOf f) (orderOf w) bs ≡ s → sizeIn s ≤ 511
       go b n Bad q = omega arith
       go true n (Good next end) q =
-          let z : 0 ≡ next = ap sizeIn (sym (judge-none (nodesOf w) (nodesOf f) (orderOf w) bs n) ∙ q) in omega arith
+          let z : 0 ≡ next = ap sizeIn (sym (judge-none (nodesOf w) (nodesOf f) (orderOf w) bs n)
+          ∙ q) in omega arith
       go false n (Good next end) q =
           let some : 0 < length bs = omega (arith, eqb-false (length bs) 0 n) in
           let t = tree-told (nodesOf w) (nodesOf f) (orderOf w) bs (nodes-length w long) few next end some q in
-          omega (arith, t .1 .1, stands-fit (nodesOf w) (nodesOf f) (nodes-length w long) 0 0 (t .0) (t .1 .0 .holds .stands))
+          omega (
+            arith,
+            t .1 .1,
+            stands-fit (nodesOf w) (nodesOf f) (nodes-length w long) 0 0 (t .0)
+                (t .1 .0 .holds .stands),
+          )
 
 module _ (before : ℕ) (w : List ℕ) (f : List Float) where
   of-offered : objectsNumber (planOf w f) ≡ 0 → offerNumber before w f ≡ lower before (offeredTree w f)
   unfolding offerNumber
   of-offered e = rw (eq-eqb _ 0 e)
 
-  of-not : (objectsNumber (planOf w f) ≡ 0 → ⊥) → offerNumber before w f ≡ lower before (objectsNumber (planOf w f))
+  of-not
+      : (objectsNumber (planOf w f) ≡ 0 → ⊥)
+      → offerNumber before w f ≡ lower before (objectsNumber (planOf w f))
   unfolding offerNumber
   of-not e = rw (ne-eqb _ 0 e)
 
@@ -156,13 +173,16 @@ module _ (before : ℕ) (w : List ℕ) (f : List Float) where
     offered : n ≡ offerNumber before w f
     offered = en ∙ ap (lower before) (eu es) ∙ sym (of-offered given)
 
-    pub offers : length w ≡ 27296 → (k m c : ℕ) (nw ow : List ℕ) (a b′ : ℕ) (r : Reply) → a ≡ 4599 → b′ ≡ 256
+    pub offers
+        : length w ≡ 27296 → (k m c : ℕ) (nw ow : List ℕ) (a b′ : ℕ) (r : Reply) → a ≡ 4599
+        → b′ ≡ 256
         → n ≡ 0 → m ≡ sizeIn s → k ≡ low32 m → c ≡ length (planOf w f .objects)
         → nw ≡ listFrom (frontWord w 22432 (9 * k)) 0 a → ow ≡ listFrom (frontWord w 27031 c) 0 b′
         → r ≡ oneWord k → OfferLeaves before w f r nw ow
     offers long k m c nw ow a b′ r ln lo e em ek ec zn zo er =
         let zero = sym offered ∙ e in
-        let size : k ≡ sizeIn (judgedTree w f) = ek ∙ ap low32 (em ∙ ap sizeIn es) ∙ fits-word _ (judged-few w f long given) in
+        let size : k ≡ sizeIn (judgedTree w f) = ek ∙ ap low32 (em ∙ ap sizeIn es) ∙ fits-word _
+        (judged-few w f long given) in
         record {
           reply = replied _ r _ zero (er ∙ ap oneWord size);
           nodes = written _ nw _ _ zero (zn ∙ rw (ln, size));
@@ -179,7 +199,9 @@ module _ (before : ℕ) (w : List ℕ) (f : List Float) where
           order = zeroed n _ ow _ _ offered e (cleared ow b′ 256 lo zo);
         }
 
-  pub offers-not : (o n : ℕ) (nw ow : List ℕ) (a b′ : ℕ) (r : Reply) → o ≡ objectsNumber (planOf w f) → (o ≡ 0 → ⊥) → n ≡ lower before o
+  pub offers-not
+      : (o n : ℕ) (nw ow : List ℕ) (a b′ : ℕ) (r : Reply) → o ≡ objectsNumber (planOf w f)
+      → (o ≡ 0 → ⊥) → n ≡ lower before o
       → a ≡ 4599 → b′ ≡ 256 → nw ≡ replicate a 0 → ow ≡ replicate b′ 0 → r ≡ refusedReply n
       → OfferLeaves before w f r nw ow
   offers-not o n nw ow a b′ r eo z en ln lo zn zo er =

@@ -13,7 +13,8 @@ use Rattle.vec.specs.Vec.{vsplat, vmin, vmax}
 use Rattle.sdf.specs.declared.Aabb.{Aabb}
 use Rattle.refusals.specs.Ranges.{greatest, within}
 use Rattle.bvh_boxes.specs.Boxes.{finiteBox, atMost, inside, nowhere, merge, hullFrom, boxAt}
-use Rattle.bvh_boxes.proofs.Vectors.{Below, Finite, below-of, of-below, finite-of, of-finite, at-least, at-most}
+use Rattle.bvh_boxes.proofs.Vectors.{Below, Finite, below-of, of-below, finite-of, of-finite, at-least}
+use Rattle.bvh_boxes.proofs.Vectors.{at-most}
 use Rattle.bvh_boxes.proofs.Vectors.{finite-numbers, fmin-top, fmax-bottom, below-refl, below-trans, vmin-left}
 use Rattle.bvh_boxes.proofs.Vectors.{vmin-right, vmin-greatest, vmax-left, vmax-right, vmax-least, vmin-finite}
 use Rattle.bvh_boxes.proofs.Vectors.{vmax-finite}
@@ -49,7 +50,8 @@ finite-by a h k = and-i (within (a .lo) greatest) (within (a .hi) greatest) (of-
 -- ---- `inside` is an order
 pub inside-refl : (a : Aabb) → T (finiteBox a) → T (inside a a)
 inside-refl a h =
-    inside-by a a (below-refl (a .lo) (finite-numbers (a .lo) (finite-lo a h))) (below-refl (a .hi) (finite-numbers (a .hi) (finite-hi a h)))
+    inside-by a a (below-refl (a .lo) (finite-numbers (a .lo) (finite-lo a h)))
+    (below-refl (a .hi) (finite-numbers (a .hi) (finite-hi a h)))
 
 pub inside-trans : (a b c : Aabb) → T (inside a b) → T (inside b c) → T (inside a c)
 inside-trans a b c h k =
@@ -134,9 +136,11 @@ hull-each a (b ∷ bs) h k zero l =
     inside-trans b (merge a b) (hullFrom (merge a b) bs) (merge-right a b (k 0 l))
     (hull-start (merge a b) bs (merge-finite a b h (k 0 l)) (λ i l. k (suc i) (suc-le-suc l)))
 hull-each a (b ∷ bs) h k (suc i) l =
-    hull-each (merge a b) bs (merge-finite a b h (k 0 (zero-lt-suc (length bs)))) (λ i l. k (suc i) (suc-le-suc l)) i (le-of-suc-le-suc l)
+    hull-each (merge a b) bs (merge-finite a b h (k 0 (zero-lt-suc (length bs)))) (λ i l. k (suc i) (suc-le-suc l)) i
+    (le-of-suc-le-suc l)
 
-pub hull-least : (a : Aabb) (bs : List Aabb) (c : Aabb) → T (inside a c) → AllInside bs c → T (inside (hullFrom a bs) c)
+pub hull-least
+    : (a : Aabb) (bs : List Aabb) (c : Aabb) → T (inside a c) → AllInside bs c → T (inside (hullFrom a bs) c)
 unfolding hullFrom
 hull-least a [] c h k = h
 hull-least a (b ∷ bs) c h k =
@@ -149,7 +153,8 @@ hull-whole bs = hull-finite nowhere bs nowhere-finite
 pub hull-holds : (bs : List Aabb) → AllFinite bs → AllInside bs (hullFrom nowhere bs)
 hull-holds bs = hull-each nowhere bs nowhere-finite
 
-pub hull-inside : (bs : List Aabb) (c : Aabb) → T (finiteBox c) → AllInside bs c → T (inside (hullFrom nowhere bs) c)
+pub hull-inside
+    : (bs : List Aabb) (c : Aabb) → T (finiteBox c) → AllInside bs c → T (inside (hullFrom nowhere bs) c)
 hull-inside bs c h = hull-least nowhere bs c (nowhere-inside c h)
 
 -- each box of xs stands in ys

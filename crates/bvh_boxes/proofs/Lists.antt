@@ -33,7 +33,8 @@ module _ (w : List ℕ) (f : List Float) where
   pub box-count : length (boxesOf (planOf w f)) ≡ countOf objects w
   box-count = rw boxes-rows (length-from (rowBox w f) (objects .first) (countOf objects w))
 
-  pub box-here : (o : ℕ) → o < countOf objects w → boxAt (boxesOf (planOf w f)) o ≡ rowBox w f (objects .first + o)
+  pub box-here
+      : (o : ℕ) → o < countOf objects w → boxAt (boxesOf (planOf w f)) o ≡ rowBox w f (objects .first + o)
   box-here o h = rw boxes-rows (getD-from (rowBox w f) (objects .first) (countOf objects w) o noBox h)
 
   pub box-past : (o : ℕ) → countOf objects w ≤ o → boxAt (boxesOf (planOf w f)) o ≡ noBox

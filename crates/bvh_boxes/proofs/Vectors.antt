@@ -79,11 +79,21 @@ finite-numbers a h =
 -- f32::MAX is the lesser of no other, and f32::MIN the greater
 pub fmin-top : (x : Float) → T (magnitude x greatest) → fmin greatest x ≡ x
 unfolding fmin
-fmin-top x h = rw (is-not {b = lt greatest x} (λ l. lt-not-le greatest x l (at-most x h)), number-eq x, is-yes {b = number x} (finite-is-number x h))
+fmin-top x h =
+    rw (
+      is-not {b = lt greatest x} (λ l. lt-not-le greatest x l (at-most x h)),
+      number-eq x,
+      is-yes {b = number x} (finite-is-number x h),
+    )
 
 pub fmax-bottom : (x : Float) → T (magnitude x greatest) → fmax (neg greatest) x ≡ x
 unfolding fmax
-fmax-bottom x h = rw (is-not {b = lt x (neg greatest)} (λ l. lt-not-le x (neg greatest) l (at-least x h)), number-eq x, is-yes {b = number x} (finite-is-number x h))
+fmax-bottom x h =
+    rw (
+      is-not {b = lt x (neg greatest)} (λ l. lt-not-le x (neg greatest) l (at-least x h)),
+      number-eq x,
+      is-yes {b = number x} (finite-is-number x h),
+    )
 
 -- ---- the order
 pub below-refl : (a : Vec3) → Numbers a → Below a a

@@ -23,7 +23,8 @@ use Rattle.bvh_build.proofs.Fitting.{hull-fits}
 module _ (bs : List Aabb) where
   -- ---- the boxes of a range's members
   members-all
-      : (P : Aabb → Type 0) (os : List ℕ) → Each (λ o. P (boxAt bs o)) os → (i : ℕ) → i < length (members bs os)
+      : (P : Aabb → Type 0) (os : List ℕ) → Each (λ o. P (boxAt bs o)) os → (i : ℕ)
+      → i < length (members bs os)
       → P (boxAt (members bs os) i)
   members-all P os h i l =
       let k : i < length os = omega (arith, members-length bs os) in
@@ -39,8 +40,11 @@ module _ (bs : List Aabb) where
   stand-in : (os xs : List ℕ) → Each (Of os) xs → StandIn (members bs xs) (members bs os)
   stand-in os xs h i l =
       let k : i < length xs = omega (arith, members-length bs xs) in
-      let j = h i k in
-      (j .0, omega (arith, members-length bs os, j .1), members-at bs xs i k ∙ ap (boxAt bs) (j .2) ∙ sym (members-at bs os (j .0) (j .1)))
+      let j = h i k in (
+        j .0,
+        omega (arith, members-length bs os, j .1),
+        members-at bs xs i k ∙ ap (boxAt bs) (j .2) ∙ sym (members-at bs os (j .0) (j .1)),
+      )
 
   -- ---- what is built of a range
   abbrev pub Finite : ℕ → Type 0
@@ -62,9 +66,11 @@ module _ (bs : List Aabb) where
     span-fits : Each Fit os → FitBox (spanOf bs os .hull)
     span-fits h = rw (span-hull bs os) (hull-fits (members bs os) (members-all FitBox os h))
 
-    span-holds : Each Finite os → (i : ℕ) → i < length os → T (inside (boxAt bs (getD os i 0)) (spanOf bs os .hull))
+    span-holds
+        : Each Finite os → (i : ℕ) → i < length os → T (inside (boxAt bs (getD os i 0)) (spanOf bs os .hull))
     span-holds h i l =
-        let k = hull-holds (members bs os) (members-all (λ b. T (finiteBox b)) os h) i (omega (arith, members-length bs os)) in
+        let k = hull-holds (members bs os) (members-all (λ b. T (finiteBox b)) os h) i
+        (omega (arith, members-length bs os)) in
         subst₂ (λ (a b : Aabb). T (inside a b)) (members-at bs os i l) (sym (span-hull bs os)) k
 
     part-inside
@@ -91,7 +97,8 @@ module _ (bs : List Aabb) where
       }
 
   node-tight
-      : (os : List ℕ) → stopsAt bs os ≡ false → (l r : TreeOrder) → Tight (leftPart bs os) l → Tight (rightPart bs os) r
+      : (os : List ℕ) → stopsAt bs os ≡ false → (l r : TreeOrder) → Tight (leftPart bs os) l
+      → Tight (rightPart bs os) r
       → Tight os (joined (spanOf bs os .hull) l r)
   node-tight os p l r a b =
       record {

@@ -79,13 +79,15 @@ merge-fits a b h k =
     record { lo = vmin-fits (a .lo) (b .lo) (h .lo) (k .lo); hi = vmax-fits (a .hi) (b .hi) (h .hi) (k .hi) }
 
 from-fits
-    : (a : Aabb) (bs : List Aabb) → FitBox a → ((i : ℕ) → i < length bs → FitBox (boxAt bs i)) → FitBox (hullFrom a bs)
+    : (a : Aabb) (bs : List Aabb) → FitBox a → ((i : ℕ) → i < length bs → FitBox (boxAt bs i))
+    → FitBox (hullFrom a bs)
 unfolding hullFrom
 from-fits a [] h k = h
 from-fits a (b ∷ bs) h k =
     from-fits (merge a b) bs (merge-fits a b h (k 0 (omega arith))) (λ i l. k (suc i) (omega arith))
 
-pub hull-fits : (bs : List Aabb) → ((i : ℕ) → i < length bs → FitBox (boxAt bs i)) → FitBox (hullFrom nowhere bs)
+pub hull-fits
+    : (bs : List Aabb) → ((i : ℕ) → i < length bs → FitBox (boxAt bs i)) → FitBox (hullFrom nowhere bs)
 hull-fits bs =
     let top = ofBits-fits binary32 0x7f7f_ffff in
     from-fits nowhere bs (record { lo = splat-fits greatest top; hi = splat-fits _ (neg-fits binary32 greatest top) })

@@ -71,19 +71,22 @@ module _ (bs : List Aabb) (os : List ℕ) where
   from-leaf (suc k) p = rw p
 
   pub from-parts : (k : ℕ) → stopsAt bs os ≡ false
-      → buildFrom (suc k) bs os ≡ joined (spanOf bs os .hull) (buildFrom k bs (leftPart bs os)) (buildFrom k bs (rightPart bs os))
+      → buildFrom (suc k) bs os ≡ joined (spanOf bs os .hull) (buildFrom k bs (leftPart bs os))
+      (buildFrom k bs (rightPart bs os))
   unfolding buildFrom wayOf
   from-parts k p = rw p
 
 -- by the two ways of a range
 module _ (bs : List Aabb) (P : List ℕ → TreeOrder → Type 0) (leaf : (os : List ℕ) → P os (leafOf bs os))
-    (node : (os : List ℕ) → stopsAt bs os ≡ false → (l r : TreeOrder) → P (leftPart bs os) l → P (rightPart bs os) r → P os (joined (spanOf bs os .hull) l r)) where
+    (node : (os : List ℕ) → stopsAt bs os ≡ false → (l r : TreeOrder) → P (leftPart bs os) l → P
+    (rightPart bs os) r → P os (joined (spanOf bs os .hull) l r)) where
   from-each : (k : ℕ) (b : Bool) (os : List ℕ) → stopsAt bs os ≡ b → P os (buildFrom k bs os)
   unfolding buildFrom
   from-each zero b os p = leaf os
   from-each (suc k) true os p = rw (from-leaf bs os (suc k) p) (leaf os)
   from-each (suc k) false os p =
-      rw (from-parts bs os k p) (node os p _ _ (from-each k _ (leftPart bs os) refl) (from-each k _ (rightPart bs os) refl))
+      rw (from-parts bs os k p) (node os p _ _ (from-each k _ (leftPart bs os) refl)
+      (from-each k _ (rightPart bs os) refl))
 
   pub build-each : (os : List ℕ) → P os (buildOf bs os)
   unfolding buildOf
@@ -100,13 +103,18 @@ module _ (bs : List Aabb) where
   fuel (suc k) zero false os p h h′ = absurd (omega (arith, many-go _ _ p))
   fuel (suc k) (suc k′) false os p h h′ =
       let n = parts-length bs os p in
-      let l = fuel k k′ _ (leftPart bs os) refl (omega (arith, right-some bs os p)) (omega (arith, right-some bs os p)) in
-      let r = fuel k k′ _ (rightPart bs os) refl (omega (arith, left-some bs os p)) (omega (arith, left-some bs os p)) in
-      from-parts bs os k p ∙ ap (λ (m : TreeOrder). joined (spanOf bs os .hull) m (buildFrom k bs (rightPart bs os))) l
+      let l = fuel k k′ _ (leftPart bs os) refl (omega (arith, right-some bs os p))
+      (omega (arith, right-some bs os p)) in
+      let r = fuel k k′ _ (rightPart bs os) refl (omega (arith, left-some bs os p))
+      (omega (arith, left-some bs os p)) in
+      from-parts bs os k p ∙ ap (λ (m : TreeOrder). joined (spanOf bs os .hull) m
+      (buildFrom k bs (rightPart bs os))) l
       ∙ ap (λ (m : TreeOrder). joined (spanOf bs os .hull) (buildFrom k′ bs (leftPart bs os)) m) r
       ∙ sym (from-parts bs os k′ p)
 
-  pub enough : (k k′ : ℕ) (os : List ℕ) → length os ≤ k → length os ≤ k′ → buildFrom k bs os ≡ buildFrom k′ bs os
+  pub enough
+      : (k k′ : ℕ) (os : List ℕ) → length os ≤ k → length os ≤ k′
+      → buildFrom k bs os ≡ buildFrom k′ bs os
   enough k k′ os h h′ = fuel k k′ _ os refl h h′
 
   pub build-leaf : (os : List ℕ) → stopsAt bs os ≡ true → buildOf bs os ≡ leafOf bs os
@@ -122,4 +130,5 @@ module _ (bs : List Aabb) where
       let r = enough (length os) (length (rightPart bs os)) (rightPart bs os) (omega arith) (omega arith) in
       enough (length os) (suc (length os)) os (omega arith) (omega arith) ∙ from-parts bs os (length os) p
       ∙ ap (λ (m : TreeOrder). joined (spanOf bs os .hull) m (buildFrom (length os) bs (rightPart bs os))) l
-      ∙ ap (λ (m : TreeOrder). joined (spanOf bs os .hull) (buildFrom (length (leftPart bs os)) bs (leftPart bs os)) m) r
+      ∙ ap (λ (m : TreeOrder). joined (spanOf bs os .hull)
+      (buildFrom (length (leftPart bs os)) bs (leftPart bs os)) m) r

@@ -20,7 +20,8 @@ module _ {A : Type 0} where
 
   -- one element more, as a loop lays it
   pub laid-snoc
-      : (xs : List A) (i : ℕ) (ys : List A) (v : A) → laid xs i (ys ++ (v ∷ [])) ≡ set (laid xs i ys) (i + length ys) v
+      : (xs : List A) (i : ℕ) (ys : List A) (v : A)
+      → laid xs i (ys ++ (v ∷ [])) ≡ set (laid xs i ys) (i + length ys) v
   unfolding laid
   laid-snoc xs i ys v = laid-append xs i ys (v ∷ [])
 
@@ -31,11 +32,13 @@ module _ {A : Type 0} where
 
   -- ---- an element before the place of a laying, and two layings that do not meet
   pub set-laid
-      : (xs : List A) (k : ℕ) (v : A) (i : ℕ) (ys : List A) → k < i → laid (set xs k v) i ys ≡ set (laid xs i ys) k v
+      : (xs : List A) (k : ℕ) (v : A) (i : ℕ) (ys : List A) → k < i
+      → laid (set xs k v) i ys ≡ set (laid xs i ys) k v
   unfolding laid
   set-laid xs k v i [] h = refl
   set-laid xs k v i (y ∷ ys) h =
-      ap (λ (l : List A). laid l (suc i) ys) (set-comm xs k i v y (λ e. omega arith)) ∙ set-laid (set xs i y) k v (suc i) ys (omega arith)
+      ap (λ (l : List A). laid l (suc i) ys) (set-comm xs k i v y (λ e. omega arith)) ∙ set-laid (set xs i y) k v
+      (suc i) ys (omega arith)
 
   pub laid-laid
       : (xs : List A) (i j : ℕ) (ys zs : List A) → i + length ys ≤ j
@@ -43,7 +46,8 @@ module _ {A : Type 0} where
   unfolding laid
   laid-laid xs i j [] zs h = refl
   laid-laid xs i j (y ∷ ys) zs h =
-      ap (λ (l : List A). laid l (suc i) ys) (sym (set-laid xs i y j zs (omega arith))) ∙ laid-laid (set xs i y) (suc i) j ys zs (omega arith)
+      ap (λ (l : List A). laid l (suc i) ys) (sym (set-laid xs i y j zs (omega arith))) ∙ laid-laid (set xs i y)
+      (suc i) j ys zs (omega arith)
 
   -- ---- what goes past the end is lost
   pub laid-past : (xs : List A) (i : ℕ) (ys : List A) → length xs ≤ i → laid xs i ys ≡ xs
@@ -52,14 +56,16 @@ module _ {A : Type 0} where
   laid-past xs i (y ∷ ys) h = rw (set-out xs i y h) (laid-past xs (suc i) ys (omega arith))
 
   -- ---- what is read of it
-  pub laid-before : (xs : List A) (i : ℕ) (ys : List A) (j : ℕ) (d : A) → j < i → getD (laid xs i ys) j d ≡ getD xs j d
+  pub laid-before
+      : (xs : List A) (i : ℕ) (ys : List A) (j : ℕ) (d : A) → j < i → getD (laid xs i ys) j d ≡ getD xs j d
   unfolding laid
   laid-before xs i [] j d h = refl
   laid-before xs i (y ∷ ys) j d h =
       laid-before (set xs i y) (suc i) ys j d (omega arith) ∙ getD-set-other xs i j y d (λ e. omega arith)
 
   pub laid-after
-      : (xs : List A) (i : ℕ) (ys : List A) (j : ℕ) (d : A) → i + length ys ≤ j → getD (laid xs i ys) j d ≡ getD xs j d
+      : (xs : List A) (i : ℕ) (ys : List A) (j : ℕ) (d : A) → i + length ys ≤ j
+      → getD (laid xs i ys) j d ≡ getD xs j d
   unfolding laid
   laid-after xs i [] j d h = refl
   laid-after xs i (y ∷ ys) j d h =

@@ -96,7 +96,8 @@ module _ (a : Plan) where
         let fit = built-tight .fit (numbers-all FitBox box-fits) in
         let finite = numbers-all (λ b. T (finiteBox b)) (boxes-finite a s) in
         rw (ne-eqb n 0 (λ e. omega arith)) (record {
-          stands = stands-here (laid nodes 0 (encode t 0 0)) 4599 t 0 0 (omega arith) (built-shape .filled (omega arith)) fit
+          stands =
+              stands-here (laid nodes 0 (encode t 0 0)) 4599 t 0 0 (omega arith) (built-shape .filled (omega arith)) fit
               (reads-laid nodes 0 (encode t 0 0) (omega (arith, encode-length t 0 0)));
           all = omega (arith, built-shape .weighs);
           once = rw c (once-by n os (laid order 0 os) (built-shape .once) reads);

@@ -29,8 +29,10 @@ numbers-apart n i j l h e =
 pub once-by : (n : ℕ) (os o : List ℕ) → Perm (numbers n) os → Reads o 0 os → Once o n
 once-by n os o p r =
     let m : length os ≡ n = perm-length p ∙ length-from place 0 n in
-    let at : (i : ℕ) → i < n → getD o i 0 ≡ getD os i 0 = λ i l. ap (λ (k : ℕ). getD o k 0) (omega arith) ∙ r i (omega arith) in
+    let at : (i : ℕ) → i < n → getD o i 0 ≡ getD os i 0 = λ i l. ap (λ (k : ℕ). getD o k 0) (omega arith)
+    ∙ r i (omega arith) in
     record {
       below = λ i l. rw (at i l) (perm-all (λ o. o < n) p (numbers-below n) i (omega arith));
-      apart = λ i j l h e. perm-apart p (numbers-apart n) i j l (omega arith) (sym (at i (omega arith)) ∙ e ∙ at j h);
+      apart =
+          λ i j l h e. perm-apart p (numbers-apart n) i j l (omega arith) (sym (at i (omega arith)) ∙ e ∙ at j h);
     }

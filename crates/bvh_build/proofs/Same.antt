@@ -61,8 +61,10 @@ module _ (bs cs : List Aabb) where
   unfolding partFrom
   part-same g split zero i mid os e h = refl
   part-same g split (suc n) i mid os e h =
-      part-same g split n (i + 1) _ _ (next (goesLeft bs g split (getD os i 0))) (still (goesLeft bs g split (getD os i 0)))
-      ∙ ap (λ (b : Bool). partFrom cs g split n (i + 1) (cond b (mid + 1) mid) (cond b (swapped i mid os) os)) (left-same g split (getD os i 0) (h i (omega arith)))
+      part-same g split n (i + 1) _ _ (next (goesLeft bs g split (getD os i 0)))
+      (still (goesLeft bs g split (getD os i 0)))
+      ∙ ap (λ (b : Bool). partFrom cs g split n (i + 1) (cond b (mid + 1) mid) (cond b (swapped i mid os) os))
+      (left-same g split (getD os i 0) (h i (omega arith)))
     where
       next : (b : Bool) → i + 1 + n ≡ length (cond b (swapped i mid os) os)
       next true = omega (arith, length-swapped i mid os)
@@ -75,22 +77,26 @@ module _ (bs cs : List Aabb) where
   cut-same : (os : List ℕ) (c : Aabb) → Each Alike os → cutOf bs os c ≡ cutOf cs os c
   unfolding cutOf parted splitOf
   cut-same os c h =
-      let s : splitOf bs os c ≡ splitOf cs os c = ap (λ (ms : List Aabb). splitBy (binsFrom (gridOf c) noBins ms)) (members-same os h) in
+      let s : splitOf bs os c ≡ splitOf cs os c = ap (λ (ms : List Aabb). splitBy (binsFrom (gridOf c) noBins ms))
+      (members-same os h) in
       ap (λ (p : Parted). record { mid = evened (p .mid) (length os); order = p .order })
-      (ap (λ (k : ℕ). partFrom bs (gridOf c) k (length os) 0 0 os) s ∙ part-same (gridOf c) (splitOf cs os c) (length os) 0 0 os (omega arith) h)
+      (ap (λ (k : ℕ). partFrom bs (gridOf c) k (length os) 0 0 os) s ∙ part-same (gridOf c) (splitOf cs os c)
+      (length os) 0 0 os (omega arith) h)
 
   -- ---- one level
   stops-same : (os : List ℕ) → Each Alike os → stopsAt bs os ≡ stopsAt cs os
   stops-same os h = ap (λ (s : Span). stops (length os) (extentOf (s .centres))) (span-same os h)
 
   cuts-same : (os : List ℕ) → Each Alike os → cutAt bs os ≡ cutAt cs os
-  cuts-same os h = cut-same os (spanOf bs os .centres) h ∙ ap (λ (s : Span). cutOf cs os (s .centres)) (span-same os h)
+  cuts-same os h =
+      cut-same os (spanOf bs os .centres) h ∙ ap (λ (s : Span). cutOf cs os (s .centres)) (span-same os h)
 
   leaf-same : (os : List ℕ) → Each Alike os → leafOf bs os ≡ leafOf cs os
   leaf-same os h = ap (λ (s : Span). record { tree = leaf (s .hull) (length os); order = os }) (span-same os h)
 
   from-same
-      : (k : ℕ) (b : Bool) (os : List ℕ) → stopsAt bs os ≡ b → Each Alike os → buildFrom k bs os ≡ buildFrom k cs os
+      : (k : ℕ) (b : Bool) (os : List ℕ) → stopsAt bs os ≡ b → Each Alike os
+      → buildFrom k bs os ≡ buildFrom k cs os
   unfolding buildFrom
   from-same zero b os p h = leaf-same os h
   from-same (suc k) true os p h =
@@ -99,10 +105,12 @@ module _ (bs cs : List Aabb) where
       let l = from-same k _ (leftPart bs os) refl (left-all bs os Alike h) in
       let r = from-same k _ (rightPart bs os) refl (right-all bs os Alike h) in
       from-parts bs os k p
-      ∙ ap (λ (s : Span). joined (s .hull) (buildFrom k bs (leftPart bs os)) (buildFrom k bs (rightPart bs os))) (span-same os h)
+      ∙ ap (λ (s : Span). joined (s .hull) (buildFrom k bs (leftPart bs os)) (buildFrom k bs (rightPart bs os)))
+      (span-same os h)
       ∙ ap (λ (m : TreeOrder). joined (spanOf cs os .hull) m (buildFrom k bs (rightPart bs os))) l
       ∙ ap (λ (m : TreeOrder). joined (spanOf cs os .hull) (buildFrom k cs (leftPart bs os)) m) r
-      ∙ ap (λ (q : Parted). joined (spanOf cs os .hull) (buildFrom k cs (take (q .mid) (q .order))) (buildFrom k cs (drop (q .mid) (q .order)))) (cuts-same os h)
+      ∙ ap (λ (q : Parted). joined (spanOf cs os .hull) (buildFrom k cs (take (q .mid) (q .order)))
+      (buildFrom k cs (drop (q .mid) (q .order)))) (cuts-same os h)
       ∙ sym (from-parts cs os k (sym (stops-same os h) ∙ p))
 
   pub build-same : (os : List ℕ) → Each Alike os → buildOf bs os ≡ buildOf cs os

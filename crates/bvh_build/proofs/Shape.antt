@@ -35,7 +35,8 @@ module _ (bs : List Aabb) where
   leaf-shape os = record { weighs = refl; sized = λ h. omega arith; filled = λ h. h; once = Permᴰ·refl os }
 
   node-shape
-      : (os : List ℕ) → stopsAt bs os ≡ false → (l r : TreeOrder) → Shape (leftPart bs os) l → Shape (rightPart bs os) r
+      : (os : List ℕ) → stopsAt bs os ≡ false → (l r : TreeOrder) → Shape (leftPart bs os) l
+      → Shape (rightPart bs os) r
       → Shape os (joined (spanOf bs os .hull) l r)
   node-shape os p l r a b =
       let n = parts-length bs os p in
@@ -47,7 +48,9 @@ module _ (bs : List Aabb) where
         weighs = omega (arith, a .weighs, b .weighs);
         sized = λ h. omega arith;
         filled = λ h. (a .filled x, b .filled y);
-        once = List·Permᴰ·trans (cut-once bs os (spanOf bs os .centres)) (perm-halves (cutAt bs os .mid) (cutAt bs os .order) (a .once) (b .once));
+        once =
+            List·Permᴰ·trans (cut-once bs os (spanOf bs os .centres))
+            (perm-halves (cutAt bs os .mid) (cutAt bs os .order) (a .once) (b .once));
       }
 
   pub build-shape : (os : List ℕ) → Shape os (buildOf bs os)

@@ -48,7 +48,8 @@ magnitude-within b y v x h = within-of b x y v (and-l (le (neg y) x) (le x y) h)
 radius-within : (x : Float) → T (radius x) → Bounded 10000 x
 unfolding radius upTo between
 radius-within x h =
-    within-of-plus 10000 x far far-is (subst (λ (o : Float). T (le o x)) zero-is (and-l (le f0 x) (le x far) h)) (and-r (le f0 x) (le x far) h)
+    within-of-plus 10000 x far far-is (subst (λ (o : Float). T (le o x)) zero-is (and-l (le f0 x) (le x far) h))
+    (and-r (le f0 x) (le x far) h)
 
 -- ---- vectors, by component
 record Within3 (b : ℕ) (v : Vec3) : Type 0 where
@@ -60,7 +61,12 @@ within-within : (b : ℕ) (y : Float) → HasValue y false b 1 → (v : Vec3) �
 unfolding within
 within-within b y e v h =
     let t = three (magnitude (v .x) y) (magnitude (v .y) y) (magnitude (v .z) y) h in
-    record { x = magnitude-within b y e (v .x) (t .x); y = magnitude-within b y e (v .y) (t .y); z = magnitude-within b y e (v .z) (t .z) }
+    record {
+      x = magnitude-within b y e (v .x) (t .x);
+      y = magnitude-within b y e (v .y)
+          (t .y);
+      z = magnitude-within b y e (v .z) (t .z);
+    }
 
 coordinates-within : (v : Vec3) → T (coordinates v) → Within3 10000 v
 unfolding coordinates
@@ -153,10 +159,12 @@ unfolding spread
 spread-within c e p q = out c c e p p q
 
 around-within
-    : (a b : Vec3) (r : Float) → Within3 10000 a → Within3 10000 b → Bounded 10000 r → BoxWithin 30000 (around a b r)
+    : (a b : Vec3) (r : Float) → Within3 10000 a → Within3 10000 b → Bounded 10000 r
+    → BoxWithin 30000 (around a b r)
 unfolding around
 around-within a b r p q w =
-    out (vmin a b) (vmax a b) (vsplat r) (vmin-within 10000 a b p q) (vmax-within 10000 a b p q) (more3 10000 20000 (vsplat r) (lit≤ tt) (splat-within 10000 r w))
+    out (vmin a b) (vmax a b) (vsplat r) (vmin-within 10000 a b p q) (vmax-within 10000 a b p q)
+    (more3 10000 20000 (vsplat r) (lit≤ tt) (splat-within 10000 r w))
 
 torus-within
     : (major minor : Float) → Bounded 10000 major → Bounded 10000 minor
@@ -171,36 +179,44 @@ unfolding boxOf boundsOf shapeOk
 box-within (Sphere c r) e h k =
     widened-within (spread c (vsplat r)) e
     (spread-within c (vsplat r) (coordinates-within c (and-l (coordinates c) (radius r) h))
-    (more3 10000 20000 (vsplat r) (lit≤ tt) (splat-within 10000 r (radius-within r (and-r (coordinates c) (radius r) h)))))
+    (more3 10000 20000 (vsplat r) (lit≤ tt) (splat-within 10000 r
+    (radius-within r (and-r (coordinates c) (radius r) h)))))
     (radius-within e k)
 box-within (RoundBox c b r) e h k =
     let t = three (coordinates c) (withinUpTo b far) (radius r) h in
-    widened-within (spread c b) e (spread-within c b (coordinates-within c (t .x)) (more3 10000 20000 b (lit≤ tt) (radii-within b (t .y)))) (radius-within e k)
+    widened-within (spread c b) e (spread-within c b (coordinates-within c (t .x))
+    (more3 10000 20000 b (lit≤ tt) (radii-within b (t .y)))) (radius-within e k)
 box-within (Plane n d) e h k = record { lo = none; hi = none }
   where
     none : Within3 40000 (vsplat f0)
     none = splat-within 40000 f0 (subst (Bounded 40000) (sym zero-is) (record { finite = tt; size = lit≤ tt }))
 box-within (Capsule a b r) e h k =
     let t = three (coordinates a) (coordinates b) (radius r) h in
-    widened-within (around a b r) e (around-within a b r (coordinates-within a (t .x)) (coordinates-within b (t .y)) (radius-within r (t .z))) (radius-within e k)
+    widened-within (around a b r) e (around-within a b r (coordinates-within a (t .x)) (coordinates-within b (t .y))
+    (radius-within r (t .z))) (radius-within e k)
 box-within (Torus c major minor) e h k =
     let t = three (coordinates c) (radius major) (radius minor) h in
     widened-within (spread c (record { x = major ⊕ minor; y = minor; z = major ⊕ minor })) e
-    (spread-within c (record { x = major ⊕ minor; y = minor; z = major ⊕ minor }) (coordinates-within c (t .x)) (torus-within major minor (radius-within major (t .y)) (radius-within minor (t .z))))
+    (spread-within c (record { x = major ⊕ minor; y = minor; z = major ⊕ minor }) (coordinates-within c (t .x))
+    (torus-within major minor (radius-within major (t .y)) (radius-within minor (t .z))))
     (radius-within e k)
 box-within (Cylinder a b r) e h k =
     let t = three (coordinates a) (coordinates b) (radius r) h in
-    widened-within (around a b r) e (around-within a b r (coordinates-within a (t .x)) (coordinates-within b (t .y)) (radius-within r (t .z))) (radius-within e k)
+    widened-within (around a b r) e (around-within a b r (coordinates-within a (t .x)) (coordinates-within b (t .y))
+    (radius-within r (t .z))) (radius-within e k)
 box-within (Cone a b ra rb) e h k =
     let t = three (coordinates a) (coordinates b) (radius ra && radius rb) h in
-    let r = fmax-within 10000 ra rb (radius-within ra (and-l (radius ra) (radius rb) (t .z))) (radius-within rb (and-r (radius ra) (radius rb) (t .z))) in
-    widened-within (around a b (fmax ra rb)) e (around-within a b (fmax ra rb) (coordinates-within a (t .x)) (coordinates-within b (t .y)) r) (radius-within e k)
+    let r = fmax-within 10000 ra rb (radius-within ra (and-l (radius ra) (radius rb) (t .z)))
+    (radius-within rb (and-r (radius ra) (radius rb) (t .z))) in
+    widened-within (around a b (fmax ra rb)) e (around-within a b (fmax ra rb) (coordinates-within a (t .x))
+    (coordinates-within b (t .y)) r) (radius-within e k)
 
 -- ---- what is within 40,000 is finite
 small : (x : Float) → Bounded 40000 x → T (magnitude x greatest)
 small x w =
     let v = within-more 40000 (16777215 * 2 ^ 104) x (lit≤ tt) w in
-    bounded x (within-ge (16777215 * 2 ^ 104) x greatest greatest-is v) (within-le (16777215 * 2 ^ 104) x greatest greatest-is v)
+    bounded x (within-ge (16777215 * 2 ^ 104) x greatest greatest-is v)
+    (within-le (16777215 * 2 ^ 104) x greatest greatest-is v)
 
 small3 : (v : Vec3) → Within3 40000 v → Finite v
 small3 v w = record { x = small (v .x) (w .x); y = small (v .y) (w .y); z = small (v .z) (w .z) }
@@ -222,6 +238,7 @@ each-finite n [] h i l = absurd (omega arith)
 each-finite n (o ∷ os) h zero l = own-finite n o (h .0)
 each-finite n (o ∷ os) h (suc i) l = each-finite n os (h .1) i (omega arith)
 
-pub boxes-finite : (a : Plan) → SoundObjects a → (i : ℕ) → i < length (a .objects) → T (finiteBox (boxAt (boxesOf a) i))
+pub boxes-finite
+    : (a : Plan) → SoundObjects a → (i : ℕ) → i < length (a .objects) → T (finiteBox (boxAt (boxesOf a) i))
 unfolding boxesOf
 boxes-finite a s = each-finite (length (a .materials)) (a .objects) (s .objects .each)

@@ -32,10 +32,12 @@ pub reads-left : (xs : List ℕ) (i : ℕ) (ys zs : List ℕ) → Reads xs i (ys
 reads-left xs i ys zs r k l = r k (omega (arith, length-append ys zs)) ∙ List·getD-append ys zs 0 k l
 
 pub reads-right
-    : (xs : List ℕ) (i : ℕ) (ys zs : List ℕ) (j : ℕ) → j ≡ i + length ys → Reads xs i (ys ++ zs) → Reads xs j zs
+    : (xs : List ℕ) (i : ℕ) (ys zs : List ℕ) (j : ℕ) → j ≡ i + length ys → Reads xs i (ys ++ zs)
+    → Reads xs j zs
 reads-right xs i ys zs j e r k l =
     let p : j + k ≡ i + (length ys + k) = omega arith in
-    ap (λ (n : ℕ). getD xs n 0) p ∙ r (length ys + k) (omega (arith, length-append ys zs)) ∙ getD-append-add ys zs k 0
+    ap (λ (n : ℕ). getD xs n 0) p ∙ r (length ys + k) (omega (arith, length-append ys zs))
+    ∙ getD-append-add ys zs k 0
 
 -- ---- every corner fits; every box of a tree is such
 abbrev pub Fit3 : Vec3 → Type 0
@@ -50,7 +52,9 @@ FitTree (leaf b c) = FitBox b
 FitTree (node b l r) = FitBox b × FitTree l × FitTree r
 
 module _ (w : List ℕ) (n : ℕ) where
-  corner : (i : ℕ) (x : Float) → i < n → T (fits binary32 x) → getD w i 0 ≡ wordFor x → getD (floatsOf w n) i nan ≡ x
+  corner
+      : (i : ℕ) (x : Float) → i < n → T (fits binary32 x) → getD w i 0 ≡ wordFor x
+      → getD (floatsOf w n) i nan ≡ x
   unfolding floatAt
   corner i x h g e =
       let z : 0 + i ≡ i = omega arith in
@@ -62,7 +66,8 @@ module _ (w : List ℕ) (n : ℕ) where
       → nodeAt w (floatsOf w n) at ≡ record { hull = b; start = start; count = count; right = right }
   unfolding nodeAt
   node-reads at b start count right h g r =
-      let f0 : getD w (9 * at) 0 ≡ wordFor (b .lo .x) = ap (λ (k : ℕ). getD w k 0) (sym (add-zero (9 * at))) ∙ r 0 (omega arith) in
+      let f0 : getD w (9 * at) 0 ≡ wordFor (b .lo .x) = ap (λ (k : ℕ). getD w k 0) (sym (add-zero (9 * at)))
+      ∙ r 0 (omega arith) in
       rw (
         corner (9 * at) (b .lo .x) (omega arith) (g .lo .x) f0,
         corner (9 * at + 1) (b .lo .y) (omega arith) (g .lo .y) (r 1 (omega arith)),
@@ -77,7 +82,8 @@ module _ (w : List ℕ) (n : ℕ) where
 
   -- ---- the tree at place `at` whose first leaf starts at s
   pub stands-here
-      : (t : Tree) (at s : ℕ) → 9 * at + 9 * size t ≤ n → Filled t → FitTree t → Reads w (9 * at) (encode t at s)
+      : (t : Tree) (at s : ℕ) → 9 * at + 9 * size t ≤ n → Filled t → FitTree t
+      → Reads w (9 * at) (encode t at s)
       → Stands w (floatsOf w n) at s t
   unfolding encode
   stands-here (leaf b c) at s h p g r = (node-reads at b s c 0 h g r, p)

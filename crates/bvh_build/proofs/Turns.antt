@@ -16,8 +16,10 @@ use Rattle.bvh_build.specs.Encode.{wordFor, nodeWords, laid}
 use Rattle.bvh_build.proofs.Laid.{laid-snoc}
 
 pub node-put : (nw : List ℕ) (i : ℕ) (b : Aabb) (start count right x y z x′ y′ z′ : ℕ)
-    → x ≡ wordFor (b .lo .x) → y ≡ wordFor (b .lo .y) → z ≡ wordFor (b .lo .z) → x′ ≡ wordFor (b .hi .x) → y′ ≡ wordFor (b .hi .y) → z′ ≡ wordFor (b .hi .z)
-    → set (set (set (set (set (set (set (set (set nw i x) (i + 1) y) (i + 2) z) (i + 3) x′) (i + 4) y′) (i + 5) z′) (i + 6) start) (i + 7) count) (i + 8) right
+    → x ≡ wordFor (b .lo .x) → y ≡ wordFor (b .lo .y) → z ≡ wordFor (b .lo .z) → x′ ≡ wordFor
+    (b .hi .x) → y′ ≡ wordFor (b .hi .y) → z′ ≡ wordFor (b .hi .z)
+    → set (set (set (set (set (set (set (set (set nw i x) (i + 1) y) (i + 2) z) (i + 3) x′) (i + 4) y′)
+    (i + 5) z′) (i + 6) start) (i + 7) count) (i + 8) right
     ≡ laid nw i (nodeWords b start count right)
 unfolding laid
 node-put nw i b start count right x y z x′ y′ z′ p q r p′ q′ r′ =
@@ -52,5 +54,6 @@ module _ (bs : List Aabb) (t₀ : List Float) where
         rw (p, boxes-put, h .1, e, add-one, take-suc bs o noBox l) r,
       )
 
-  pub load-all : (t : List Float) (o : ℕ) → length bs ≤ o → Loaded t o → tableBoxes t ≡ laid (tableBoxes t₀) 0 bs
+  pub load-all
+      : (t : List Float) (o : ℕ) → length bs ≤ o → Loaded t o → tableBoxes t ≡ laid (tableBoxes t₀) 0 bs
   load-all t o e h = h .1 ∙ ap (laid (tableBoxes t₀) 0) (take-all o bs e)

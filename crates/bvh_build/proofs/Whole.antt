@@ -37,7 +37,8 @@ numbers-same n h = from-same low32 place 0 0 n (λ k l. rw (lt-ltb (0 + k) 42949
 
 -- ---- a table with boxes laid over it
 table-alike
-    : (bs zs : List Aabb) (n : ℕ) → length bs ≡ n → n ≤ length zs → Each (Alike (laid zs 0 bs) bs) (listFrom place 0 n)
+    : (bs zs : List Aabb) (n : ℕ) → length bs ≡ n → n ≤ length zs
+    → Each (Alike (laid zs 0 bs) bs) (listFrom place 0 n)
 table-alike bs zs n e h i l =
     let k : i < n = omega (arith, length-from place 0 n) in
     let z : 0 + i ≡ i = omega arith in
@@ -45,9 +46,11 @@ table-alike bs zs n e h i l =
     (laid-here zs 0 bs i noBox (omega arith) (omega arith) ∙ ap (λ (j : ℕ). boxAt bs j) (sym z))
 
 pub lays-plan
-    : (a : Plan) (zs bs : List Aabb) (n : ℕ) (os nw nw′ os′ : List ℕ) (r : Built) → bs ≡ laid zs 0 (boxesOf a)
+    : (a : Plan) (zs bs : List Aabb) (n : ℕ) (os nw nw′ os′ : List ℕ) (r : Built)
+    → bs ≡ laid zs 0 (boxesOf a)
     → os ≡ listFrom low32 0 n → (Room os 0 0 → Lays (buildOf bs os) nw 0 0 64 r nw′ os′)
-    → zs ≡ replicate 256 zeroBox → n ≡ length (a .objects) → 0 < length (a .objects) → length (a .objects) ≤ 256
+    → zs ≡ replicate 256 zeroBox → n ≡ length (a .objects) → 0 < length (a .objects) → length
+    (a .objects) ≤ 256
     → Lays (builtOf a) nw 0 0 64 r nw′ os′
 unfolding builtOf
 lays-plan a zs bs n os nw nw′ os′ r eb eo L ez en pos h =
@@ -64,7 +67,8 @@ lays-plan a zs bs n os nw nw′ os′ r eb eo L ez en pos h =
 
 -- ---- a table of floats that are all one
 pub table-of
-    : (n : ℕ) (x : Float) → tableBoxes (replicate (6 * n) x) ≡ replicate n (record { lo = vsplat x; hi = vsplat x })
+    : (n : ℕ) (x : Float) → tableBoxes (replicate (6 * n) x) ≡ replicate n
+    (record { lo = vsplat x; hi = vsplat x })
 unfolding vsplat
 table-of n x =
     let f = replicate (6 * n) x in
@@ -75,7 +79,8 @@ table-of n x =
       hi = vsplat x;
     })) (box-count f ∙ k ∙ sym (length-replicate n _)) (λ i h.
     let l : i < n = omega (arith, box-count f) in
-    let g : (d : ℕ) → d < 6 → getD f (6 * i + d) nan ≡ x = λ d q. getD-replicate (6 * n) (6 * i + d) x nan (omega arith) in
+    let g : (d : ℕ) → d < 6 → getD f (6 * i + d) nan ≡ x = λ d q. getD-replicate (6 * n) (6 * i + d) x nan
+    (omega arith) in
     let z : getD f (6 * i) nan ≡ x = getD-replicate (6 * n) (6 * i) x nan (omega arith) in
     box-here f i (omega arith)
     ∙ rw (z, g 1 (omega arith), g 2 (omega arith), g 3 (omega arith), g 4 (omega arith), g 5 (omega arith))
@@ -83,7 +88,8 @@ table-of n x =
 
 -- ---- the whole
 pub builds-none
-    : (a : Plan) (nw ow : List ℕ) → length (a .objects) ≡ 0 → Builds a nw ow (record { next = 0; low = true }) nw ow
+    : (a : Plan) (nw ow : List ℕ) → length (a .objects) ≡ 0
+    → Builds a nw ow (record { next = 0; low = true }) nw ow
 unfolding sizeOf lowEnough nodesWith orderWith
 builds-none a nw ow z =
     let e = eq-eqb (length (a .objects)) 0 z in
@@ -98,16 +104,20 @@ builds-some a nw ow nw′ os′ n r L p pos h =
     let m = buildOf (boxesOf a) (listFrom place 0 (length (a .objects))) in
     let e = ne-eqb (length (a .objects)) 0 (λ q. omega arith) in
     let k : length (m .order) ≡ n
-    = order-length (boxesOf a) (listFrom place 0 (length (a .objects))) ∙ length-from place 0 (length (a .objects)) ∙ sym p in
+    = order-length (boxesOf a) (listFrom place 0 (length (a .objects))) ∙ length-from place 0 (length (a .objects))
+    ∙ sym p in
     record {
       next-is = rw e (omega (arith, L .next-is));
       low-is = rw e (L .low-is);
       nodes-are = rw e (L .nodes-are);
-      order-is = rw (e, L .order-is) (sym (laid-front ow (m .order) (omega arith) ∙ ap (λ (j : ℕ). m .order ++ drop j ow) k));
+      order-is =
+          rw (e, L .order-is) (sym (laid-front ow (m .order) (omega arith) ∙ ap
+          (λ (j : ℕ). m .order ++ drop j ow) k));
     }
 
 -- how many objects, as the code counts them
-pub objects-count : (w : List ℕ) (f : List Float) (n : ℕ) → n ≡ countOf objects w → n ≡ length (planOf w f .objects)
+pub objects-count
+    : (w : List ℕ) (f : List Float) (n : ℕ) → n ≡ countOf objects w → n ≡ length (planOf w f .objects)
 objects-count w f n e = e ∙ sym (lists.box-count w f) ∙ boxes-length (planOf w f)
 
 -- what a count of 0, one above 256 and one between them leave

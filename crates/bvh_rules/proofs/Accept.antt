@@ -45,7 +45,8 @@ module _ (w : List ℕ) (f : List Float) (o : List ℕ) (bs : List Aabb) where
 
   -- ---- a good place holds a tree
   module _ (level : ℕ) (outer : Aabb) (at s a b : ℕ)
-      (ih : (outer : Aabb) (at s a b : ℕ) → checkOf level w f o bs outer at s ≡ Good a b → Found level outer at s a b) where
+      (ih : (outer : Aabb) (at s a b : ℕ) → checkOf level w f o bs outer at s ≡ Good a b
+      → Found level outer at s a b) where
     abbrev v : Node
     v = nodeAt w f at
 
@@ -64,7 +65,15 @@ module _ (w : List ℕ) (f : List Float) (o : List ℕ) (bs : List Aabb) where
             subst₂ (λ (j k : ℕ). Stands w f j k (q .tree)) ex (p .last) (q .stands),
           );
           low = omega (arith, p .low, q .low);
-          boxed = (box .0, (p .within, q .within), (p .boxed, subst (λ (j : ℕ). Boxed o bs j (q .tree)) (p .last) (q .boxed)));
+          boxed = (
+            box .0,
+            (p .within, q .within),
+            (
+              p .boxed,
+              subst (λ (j : ℕ). Boxed o bs j (q .tree)) (p .last)
+                  (q .boxed),
+            ),
+          );
           within = box .1;
           after = omega (arith, q .after, ex);
           last = omega (arith, q .last, p .last);
@@ -73,19 +82,23 @@ module _ (w : List ℕ) (f : List Float) (o : List ℕ) (bs : List Aabb) where
 
     by-test
         : (l r x y : ℕ) → kindOf o bs v outer at s ≡ Inner l r → Found level (v .hull) l s x y → (t : Bool)
-        → eqb r x ≡ t → cond t (checkOf level w f o bs (v .hull) x y) Bad ≡ Good a b → Found (suc level) outer at s a b
+        → eqb r x ≡ t → cond t (checkOf level w f o bs (v .hull) x y) Bad ≡ Good a b → Found
+        (suc level) outer at s a b
     by-test l r x y k p true e g = join l r x y k p (eqb-true r x e) (ih (v .hull) x y a b g)
     by-test l r x y k p false e g = absurd (bad-good a b g)
 
     by-left
-        : (l r : ℕ) → kindOf o bs v outer at s ≡ Inner l r → (u : Sub) → checkOf level w f o bs (v .hull) l s ≡ u
-        → then u r (λ next end. checkOf level w f o bs (v .hull) next end) ≡ Good a b → Found (suc level) outer at s a b
+        : (l r : ℕ) → kindOf o bs v outer at s ≡ Inner l r → (u : Sub)
+        → checkOf level w f o bs (v .hull) l s ≡ u
+        → then u r (λ next end. checkOf level w f o bs (v .hull) next end) ≡ Good a b → Found
+        (suc level) outer at s a b
     by-left l r k Bad e g = absurd (bad-good a b g)
     by-left l r k (Good x y) e g = by-test l r x y k (ih (v .hull) l s x y e) (eqb r x) refl g
 
     by-kind
         : (k : Kind) → kindOf o bs v outer at s ≡ k
-        → onKind k (λ left right. then (checkOf level w f o bs (v .hull) left s) right (λ next end. checkOf level w f o bs (v .hull) next end)) ≡ Good a b
+        → onKind k (λ left right. then (checkOf level w f o bs (v .hull) left s) right
+        (λ next end. checkOf level w f o bs (v .hull) next end)) ≡ Good a b
         → Found (suc level) outer at s a b
     by-kind Wrong k g = absurd (bad-good a b g)
     by-kind (Leaf x y) k g =
@@ -112,12 +125,14 @@ module _ (w : List ℕ) (f : List Float) (o : List ℕ) (bs : List Aabb) where
   unfolding checkOf
   sub-to zero outer at s a b e = absurd (bad-good a b e)
   sub-to (suc level) outer at s a b e =
-      by-kind level outer at s a b (λ outer at s a b e. sub-to level outer at s a b e) (kindOf o bs (nodeAt w f at) outer at s) refl e
+      by-kind level outer at s a b (λ outer at s a b e. sub-to level outer at s a b e)
+      (kindOf o bs (nodeAt w f at) outer at s) refl e
 
   -- ---- where a tree stands the place is good
   module _ (lw : length w ≡ 4599) where
     sub-tree
-        : (level : ℕ) (outer : Aabb) (at s : ℕ) (t : Tree) → Stands w f at s t → depth t < level → Boxed o bs s t
+        : (level : ℕ) (outer : Aabb) (at s : ℕ) (t : Tree) → Stands w f at s t → depth t < level
+        → Boxed o bs s t
         → T (inside (hull t) outer) → s + weight t ≤ length bs
         → checkOf level w f o bs outer at s ≡ Good (at + size t) (s + weight t)
     unfolding checkOf
@@ -133,12 +148,14 @@ module _ (w : List ℕ) (f : List Float) (o : List ℕ) (bs : List Aabb) where
         let m : ℕ = at + 1 + size l in
         let p = sub-tree level b (at + 1) s l (h .1) (omega arith) (x .2 .0) (x .1 .0) (omega arith) in
         let q = sub-tree level b m (s + weight l) r (h .2) (omega arith) (x .2 .1) (x .1 .1) (omega arith) in
-        rw (h .0, sym (kind-inner o bs (innerNode b m) outer at s good refl refl), p, eq-eqb m m refl) (q ∙ ap₂ Good (omega arith) (omega arith))
+        rw (h .0, sym (kind-inner o bs (innerNode b m) outer at s good refl refl), p, eq-eqb m m refl)
+        (q ∙ ap₂ Good (omega arith) (omega arith))
 
     pub sub-exact
         : (level : ℕ) (outer : Aabb) (at s a b : ℕ)
         → (checkOf level w f o bs outer at s ≡ Good a b) ↔ Found level outer at s a b
     sub-exact level outer at s a b = (
       sub-to level outer at s a b,
-      λ p. sub-tree level outer at s (p .tree) (p .stands) (p .low) (p .boxed) (p .within) (omega (arith, p .last, p .few)) ∙ ap₂ Good (sym (p .after)) (sym (p .last)),
+      λ p. sub-tree level outer at s (p .tree) (p .stands) (p .low) (p .boxed) (p .within)
+          (omega (arith, p .last, p .few)) ∙ ap₂ Good (sym (p .after)) (sym (p .last)),
     )

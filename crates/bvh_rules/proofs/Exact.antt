@@ -62,7 +62,8 @@ module _ (w : List ℕ) (f : List Float) (o : List ℕ) (bs : List Aabb) where
   module _ (lw : length w ≡ 4599) (few : length bs ≤ 256) where
     pub tree-exact : 0 < length bs → (isGood (judgeOf 64 w f o bs) ≡ true) ↔ ((t : Tree) × Accepted w f o bs t)
     tree-exact some = (
-      λ e. let p = good-exact w f o bs lw few 64 some .0 e in (p .0, record { holds = p .1 .0; low = omega (arith, p .1 .1) }),
+      λ e. let p = good-exact w f o bs lw few 64 some .0 e in
+          (p .0, record { holds = p .1 .0; low = omega (arith, p .1 .1) }),
       λ p. good-exact w f o bs lw few 64 some .1 (p .0, (p .1 .holds, omega (arith, p .1 .low))),
     )
 
@@ -135,14 +136,21 @@ module _ (w : List ℕ) (f : List Float) (o : List ℕ) (bs : List Aabb) where
     offered-deep =
         Iff·trans (deep-is at64 at256) (
           λ p. deep-to (p .0) (p .1),
-          λ p. (un-true at64 (too-deep (p .0) (p .1 .0) (p .1 .1)), all-but-depth (holds-some (p .0) (p .1 .0)) .1 (p .0, p .1 .0)),
+          λ p. (
+            un-true at64 (too-deep (p .0) (p .1 .0) (p .1 .1)),
+            all-but-depth (holds-some (p .0) (p .1 .0)) .1 (p .0, p .1 .0),
+          ),
         )
 
-    pub offered-bad : (offeredNumber w f o bs ≡ badTree) ↔ ((0 < length bs) × ((t : Tree) → Holds w f o bs t → ⊥))
+    pub offered-bad
+        : (offeredNumber w f o bs ≡ badTree) ↔ ((0 < length bs) × ((t : Tree) → Holds w f o bs t → ⊥))
     unfolding offeredNumber
     offered-bad =
         Iff·trans (bad-is at64 at256) (
-          λ p. (some-where 64 (p .0), λ t h. true≢false (sym (all-but-depth (some-where 64 (p .0)) .1 (t, h)) ∙ p .1)),
+          λ p. (
+            some-where 64 (p .0),
+            λ t h. true≢false (sym (all-but-depth (some-where 64 (p .0)) .1 (t, h)) ∙ p .1),
+          ),
           λ p. (
             un-true at64 (λ e. let q = tree-exact (p .0) .0 e in p .1 (q .0) (q .1 .holds)),
             un-true at256 (λ e. let q = all-but-depth (p .0) .0 e in p .1 (q .0) (q .1)),

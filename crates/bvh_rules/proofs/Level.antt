@@ -34,12 +34,14 @@ hull-at b outer at e = ltb-true at 511 (and-eq-true-iff (ltb at 511) (finiteBox 
 pub words-start : (v : Node) (n start : ℕ) → leafWords v n start ≡ true → v .start ≡ start
 unfolding leafWords
 words-start v n start e =
-    let p = and-eq-true-iff (eqb (v .right) 0 && eqb (v .start) start) (leb start n && leb (v .count) (n - start)) .0 e in
+    let p = and-eq-true-iff (eqb (v .right) 0 && eqb (v .start) start)
+    (leb start n && leb (v .count) (n - start)) .0 e in
     eqb-true (v .start) start (and-eq-true-iff (eqb (v .right) 0) (eqb (v .start) start) .0 (p .0) .1)
 
 module _ (o : List ℕ) (bs : List Aabb) (v : Node) (start : ℕ) where
   module _ (n : ℕ) (e : n ≡ length bs) where
-    pub leaf-good : leafWords v n start ≡ true → leafOk o bs v start ≡ holdsAll o bs (v .hull) (v .start) (v .count)
+    pub leaf-good
+        : leafWords v n start ≡ true → leafOk o bs v start ≡ holdsAll o bs (v .hull) (v .start) (v .count)
     unfolding leafOk
     leaf-good g = rw (sym e, g, words-start v n start g)
 
@@ -73,7 +75,8 @@ module _ (o : List ℕ) (bs : List Aabb) (v : Node) (outer : Aabb) (at start : �
     unfolding kindOf
     kind-leaf c e = rw (h, ne-eqb (v .count) 0 c, e)
 
-    pub kind-no-leaf : (v .count ≡ 0 → ⊥) → leafOk o bs v start ≡ false → Wrong ≡ kindOf o bs v outer at start
+    pub kind-no-leaf
+        : (v .count ≡ 0 → ⊥) → leafOk o bs v start ≡ false → Wrong ≡ kindOf o bs v outer at start
     unfolding kindOf
     kind-no-leaf c e = rw (h, ne-eqb (v .count) 0 c, e)
 
@@ -86,7 +89,9 @@ module _ (w : List ℕ) (f : List Float) (o : List ℕ) (bs : List Aabb) (outer 
     -- the parts are in v's box
     check-step
         : (level : ℕ) → 0 < level
-        → checkOf level w f o bs outer at start ≡ onKind k (λ left right. then (checkOf (level - 1) w f o bs (v .hull) left start) right (λ next end. checkOf (level - 1) w f o bs (v .hull) next end))
+        → checkOf level w f o bs outer at start ≡ onKind k
+        (λ left right. then (checkOf (level - 1) w f o bs (v .hull) left start) right
+        (λ next end. checkOf (level - 1) w f o bs (v .hull) next end))
     unfolding checkOf
     check-step zero h = absurd (omega arith)
     check-step (suc level) h = rw (ek, ev, sub-one)

@@ -38,7 +38,8 @@ module _ (o : List ℕ) (bs : List Aabb) (b : Aabb) (start : ℕ) where
 
 -- ---- a part of a table
 part-at
-    : {A : Type 0} (t : List A) (from n i : ℕ) (d : A) → i < n → getD (take n (drop from t)) i d ≡ getD t (from + i) d
+    : {A : Type 0} (t : List A) (from n i : ℕ) (d : A) → i < n
+    → getD (take n (drop from t)) i d ≡ getD t (from + i) d
 part-at t from n i d h = rw (getD-take, getD-drop)
 
 part-length : {A : Type 0} (t : List A) (from n : ℕ) → length (take n (drop from t)) ≤ n
@@ -63,7 +64,8 @@ order-here t i h = part-at t orderFirst orderPlaces i 0 h
 pub order-past : (t : List ℕ) (i : ℕ) → orderPlaces ≤ i → 0 ≡ wordOf (orderOf t) i
 unfolding orderOf
 order-past t i h =
-    sym (List·getD-eq-default (take orderPlaces (drop orderFirst t)) 0 (omega (arith, part-length t orderFirst orderPlaces)))
+    sym (List·getD-eq-default (take orderPlaces (drop orderFirst t)) 0
+    (omega (arith, part-length t orderFirst orderPlaces)))
 
 -- a node whose words start at i
 abbrev pub nodeFrom : List ℕ → List Float → ℕ → Node
@@ -147,7 +149,8 @@ module _ (w : List ℕ) (f : List Float) (lw : length w ≤ nodesWords) where
         word-past (i + 8) (omega arith),
       )
 
-pub node-none : (w : List ℕ) (f : List Float) (at : ℕ) → nodesMost ≤ at → nodeAt (nodesOf w) (nodesOf f) at ≡ noNode
+pub node-none
+    : (w : List ℕ) (f : List Float) (at : ℕ) → nodesMost ≤ at → nodeAt (nodesOf w) (nodesOf f) at ≡ noNode
 node-none w f at h = node-past (nodesOf w) (nodesOf f) (nodes-few w) (nodes-few f) at h
 
 -- ---- the order table: what is left to mark of n places from place i on

@@ -22,9 +22,12 @@ cond-false true b e = absurd (false≢true e)
 cond-false false b e = (refl, e)
 
 -- a place that is not marked after x was is not x
-other : (seen : List Bool) (x y : ℕ) → x < length seen → getD (set seen x true) y false ≡ false → y ≡ x → ⊥
+other
+    : (seen : List Bool) (x y : ℕ) → x < length seen → getD (set seen x true) y false ≡ false → y ≡ x
+    → ⊥
 other seen x y h e g =
-    true≢false (sym (getD-set-same seen x true false h) ∙ ap (λ (k : ℕ). getD (set seen x true) k false) (sym g) ∙ e)
+    true≢false (sym (getD-set-same seen x true false h) ∙ ap (λ (k : ℕ). getD (set seen x true) k false)
+    (sym g) ∙ e)
 
 module _ (o : List ℕ) (n : ℕ) where
   -- k places from i on: each below n, no two the same, none seen
@@ -42,11 +45,15 @@ module _ (o : List ℕ) (n : ℕ) where
         let new : (j : ℕ) → i < j → j < i + suc k → wordOf o j ≡ wordOf o i → ⊥
         = λ j g h. other seen (wordOf o i) (wordOf o j) (omega arith) (q .unseen j (omega arith) (omega arith)) in
         record {
-          below = λ j g h. ⊎-elim (λ e. at-place e x) (λ e. q .below j (omega arith) (omega arith)) (eq-or-lt-of-le g);
-          apart = λ j m g d h e. ⊎-elim (λ p. new m (omega arith) h (sym e ∙ ap (wordOf o) (sym p))) (λ p. q .apart j m (omega arith) d (omega arith) e) (eq-or-lt-of-le g);
+          below =
+              λ j g h. ⊎-elim (λ e. at-place e x) (λ e. q .below j (omega arith) (omega arith)) (eq-or-lt-of-le g);
+          apart =
+              λ j m g d h e. ⊎-elim (λ p. new m (omega arith) h (sym e ∙ ap (wordOf o) (sym p)))
+              (λ p. q .apart j m (omega arith) d (omega arith) e) (eq-or-lt-of-le g);
           unseen = λ j g h.
               ⊎-elim (λ e. ap (λ (p : ℕ). getD seen (wordOf o p) false) (sym e) ∙ s)
-              (λ e. sym (getD-set-other seen (wordOf o i) (wordOf o j) true false (new j e h)) ∙ q .unseen j (omega arith) (omega arith))
+              (λ e. sym (getD-set-other seen (wordOf o i) (wordOf o j) true false (new j e h)) ∙ q .unseen j
+              (omega arith) (omega arith))
               (eq-or-lt-of-le g);
         }
       where
@@ -59,7 +66,8 @@ module _ (o : List ℕ) (n : ℕ) where
           below = λ j g h. q .below j (omega arith) (omega arith);
           apart = λ j m g d h. q .apart j m (omega arith) d (omega arith);
           unseen = λ j g h.
-              let ne : wordOf o j ≡ wordOf o i → ⊥ = λ e. q .apart i j (omega arith) (omega arith) (omega arith) (sym e) in
+              let ne : wordOf o j ≡ wordOf o i → ⊥ = λ e. q .apart i j (omega arith) (omega arith)
+              (omega arith) (sym e) in
               getD-set-other seen (wordOf o i) (wordOf o j) true false ne ∙ q .unseen j (omega arith) (omega arith);
         }
 
@@ -83,7 +91,8 @@ module _ (o : List ℕ) (n : ℕ) where
   marked zero i seen q = refl
   marked (suc k) i seen q =
       let x = lt-ltb (wordOf o i) n (q .below i (omega arith) (omega arith)) in
-      simp (x, q .unseen i (omega arith) (omega arith)) (marked k (i + 1) (set seen (wordOf o i) true) (fresh-less k i seen q))
+      simp (x, q .unseen i (omega arith) (omega arith))
+      (marked k (i + 1) (set seen (wordOf o i) true) (fresh-less k i seen q))
 
   pub order-exact : n ≤ 256 → (orderOk o n ≡ true) ↔ Once o n
   order-exact h = (to, from)
@@ -94,7 +103,11 @@ module _ (o : List ℕ) (n : ℕ) where
       to : orderOk o n ≡ true → Once o n
       to e =
           let q = fresh n 0 (replicate 256 false) (rw (length-replicate 256 false) h) (sym marks ∙ e) in
-          record { below = λ i g. q .below i (omega arith) (omega arith); apart = λ i j g k. q .apart i j (omega arith) g (omega arith) }
+          record {
+            below = λ i g. q .below i (omega arith) (omega arith);
+            apart = λ i j g k. q .apart i j
+                (omega arith) g (omega arith);
+          }
 
       from : Once o n → orderOk o n ≡ true
       from q =

@@ -24,7 +24,8 @@ use Rattle.bvh_rules.proofs.Lists.{holds-none, holds-more}
 use Rattle.bvh_rules.proofs.Level.{cond-true}
 
 -- ---- its box
-pub hull-from : (b outer : Aabb) (at : ℕ) → at < 511 → T (finiteBox b) → T (inside b outer) → hullOk b outer at ≡ true
+pub hull-from
+    : (b outer : Aabb) (at : ℕ) → at < 511 → T (finiteBox b) → T (inside b outer) → hullOk b outer at ≡ true
 unfolding hullOk
 hull-from b outer at h g k = rw (lt-ltb at 511 h, is-true (finiteBox b) g, is-true (inside b outer) k)
 
@@ -49,7 +50,8 @@ module _ (o : List ℕ) (bs : List Aabb) (b : Aabb) (s : ℕ) where
   holds-to (suc c) e i g h =
       let p = and-eq-true-iff (holdsAll o bs b s c) (heldAt o bs b (s + c)) .0 (sym (holds-suc c) ∙ e) in
       let k : i ≤ s + c = omega arith in
-      ⊎-elim (λ q. subst (λ (j : ℕ). T (inside (boxAt bs (wordOf o j)) b)) (sym q) (passes (heldAt o bs b (s + c)) (p .1))) (λ q. holds-to c (p .0) i g q) (eq-or-lt-of-le k)
+      ⊎-elim (λ q. subst (λ (j : ℕ). T (inside (boxAt bs (wordOf o j)) b)) (sym q)
+      (passes (heldAt o bs b (s + c)) (p .1))) (λ q. holds-to c (p .0) i g q) (eq-or-lt-of-le k)
 
   pub holds-from : (c : ℕ) → Held c → holdsAll o bs b s c ≡ true
   unfolding heldAt
@@ -88,7 +90,13 @@ module _ (o : List ℕ) (bs : List Aabb) (v : Node) (s : ℕ) where
       let few : s + v .count ≤ length bs = p .few in
       let a = le-leb s (length bs) (omega arith) in
       let b = le-leb (v .count) (length bs - s) (omega arith) in
-      simp (eq-eqb (v .right) 0 (p .right), eq-eqb (v .start) s (p .start), a, b, holds-from o bs (v .hull) s (v .count) (p .held))
+      simp (
+        eq-eqb (v .right) 0 (p .right),
+        eq-eqb (v .start) s (p .start),
+        a,
+        b,
+        holds-from o bs (v .hull) s (v .count) (p .held),
+      )
 
 -- ---- which kind it is
 abbrev tag : Kind → ℕ
@@ -136,7 +144,8 @@ module _ (o : List ℕ) (bs : List Aabb) (v : Node) (outer : Aabb) (at s x y : �
   pub kind-leaf-to : kindOf o bs v outer at s ≡ Leaf x y → KindLeaf o bs v outer at s x y
   unfolding kindOf
   kind-leaf-to e =
-      let p = is-leaf (hullOk (v .hull) outer at) (eqb (v .count) 0) (eqb (v .start) 0) (leafOk o bs v s) (at + 1) (v .right) (at + 1) (s + v .count) x y e in
+      let p = is-leaf (hullOk (v .hull) outer at) (eqb (v .count) 0) (eqb (v .start) 0) (leafOk o bs v s) (at + 1)
+      (v .right) (at + 1) (s + v .count) x y e in
       let l = leaf-to o bs v s (p .2) in
       let ne = eqb-false (v .count) 0 (p .1) in
       record {
@@ -151,7 +160,8 @@ module _ (o : List ℕ) (bs : List Aabb) (v : Node) (outer : Aabb) (at s x y : �
   pub kind-inner-to : kindOf o bs v outer at s ≡ Inner x y → KindInner v outer at x y
   unfolding kindOf
   kind-inner-to e =
-      let p = is-inner (hullOk (v .hull) outer at) (eqb (v .count) 0) (eqb (v .start) 0) (leafOk o bs v s) (at + 1) (v .right) (at + 1) (s + v .count) x y e in
+      let p = is-inner (hullOk (v .hull) outer at) (eqb (v .count) 0) (eqb (v .start) 0) (leafOk o bs v s) (at + 1)
+      (v .right) (at + 1) (s + v .count) x y e in
       let es : v .start ≡ 0 = eqb-true (v .start) 0 (p .2) in
       let ec : v .count ≡ 0 = eqb-true (v .count) 0 (p .1) in
       let er : v .right ≡ y = p .4 in

@@ -53,7 +53,8 @@ module _ (w : List ℕ) (f : List Float) where
   stands-below lw at s (node b l r) h = here lw at (innerNode b (at + 1 + size l)) (h .0) (omega arith)
 
   leaf-inner
-      : (at s c k : ℕ) (b b′ : Aabb) → 0 < c → nodeAt w f at ≡ leafNode b s c → nodeAt w f at ≡ innerNode b′ k → ⊥
+      : (at s c k : ℕ) (b b′ : Aabb) → 0 < c → nodeAt w f at ≡ leafNode b s c
+      → nodeAt w f at ≡ innerNode b′ k → ⊥
   leaf-inner at s c k b b′ h p q =
       let e : c ≡ 0 = ap (λ (u : Node). u .count) (sym p ∙ q) in
       omega arith
@@ -69,6 +70,7 @@ module _ (w : List ℕ) (f : List Float) where
   stands-one at s (node b l r) (node b′ l′ r′) h k =
       let e : b ≡ b′ = ap (λ (u : Node). u .hull) (sym (h .0) ∙ k .0) in
       let g = stands-one (at + 1) s l l′ (h .1) (k .1) in
-      let k′ : Stands w f (at + 1 + size l) (s + weight l) r′ = subst (λ (x : Tree). Stands w f (at + 1 + size x) (s + weight x) r′) (sym g) (k .2) in
+      let k′ : Stands w f (at + 1 + size l) (s + weight l) r′ = subst
+      (λ (x : Tree). Stands w f (at + 1 + size x) (s + weight x) r′) (sym g) (k .2) in
       let q = stands-one (at + 1 + size l) (s + weight l) r r′ (h .2) k′ in
       λ i. node (e i) (g i) (q i)

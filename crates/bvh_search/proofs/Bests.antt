@@ -23,7 +23,8 @@ use Rattle.bvh_search.specs.Demand.{In, dist, Least}
 use Rattle.bvh_search.proofs.Covers.{in-left, in-right, in-split}
 use Rattle.bvh_search.proofs.Steps.{keeps}
 
-closer-d : (x : Piece) (p : Vec3) (best : DistHit) → plan.closer best (hitOf x p) .d ≡ lessOf (best .d) (pieceDist x p)
+closer-d
+    : (x : Piece) (p : Vec3) (best : DistHit) → plan.closer best (hitOf x p) .d ≡ lessOf (best .d) (pieceDist x p)
 unfolding plan.closer hitOf
 closer-d x p best = go (lt (pieceDist x p) (best .d))
   where
@@ -75,7 +76,8 @@ module _ (o : List ℕ) (w : List ℕ) (f : List Float) (p : Vec3) (bound : Floa
   good-leaf zero s best seen passed g = rw append-nil g
   good-leaf (suc k) s best seen passed g =
       rw (← (append-assoc seen (s ∷ []) (listFrom place (suc s) k)))
-      (good-leaf k (suc s) (plan.closer best (hitOf (pieceIn w f o s) p)) (seen ++ (s ∷ [])) passed (rw (closer-d (pieceIn w f o s) p best) (good-one s (best .d) seen passed g)))
+      (good-leaf k (suc s) (plan.closer best (hitOf (pieceIn w f o s) p)) (seen ++ (s ∷ [])) passed
+      (rw (closer-d (pieceIn w f o s) p best) (good-one s (best .d) seen passed g)))
 
   abbrev pub Kept : Walk → Type 0
   Kept σ = Good (σ .best .d) (σ .seen) (σ .passed)
@@ -88,7 +90,8 @@ module _ (o : List ℕ) (w : List ℕ) (f : List Float) (p : Vec3) (bound : Floa
       (λ σ g. g)
 
 pub good-walk
-    : (o : List ℕ) (w : List ℕ) (f : List Float) (p : Vec3) (t : Tree) (bound : DistHit) → T (eq (bound .d) (bound .d))
+    : (o : List ℕ) (w : List ℕ) (f : List Float) (p : Vec3) (t : Tree) (bound : DistHit)
+    → T (eq (bound .d) (bound .d))
     → Kept o w f p (bound .d) (visit o w f p t 0 (walkFrom bound))
 good-walk o w f p t bound n =
     good-visit o w f p (bound .d) t 0 (walkFrom bound) (record {

@@ -48,7 +48,11 @@ module _ (o : List ℕ) (w : List ℕ) (f : List Float) (p : Vec3) where
   grows t s σ =
       keeps o w f p (Grows σ)
       (λ t s τ _ g. record { seen = g .seen; passed = λ q h. inr (g .passed q h) })
-      (λ s c τ g. record { seen = λ i h. in-left i (τ .seen) (listFrom place s c) (g .seen i h); passed = g .passed })
+      (λ s c τ g. record {
+        seen = λ i h. in-left i (τ .seen) (listFrom place s c)
+            (g .seen i h);
+        passed = g .passed;
+      })
       (λ τ g. record { seen = g .seen; passed = g .passed })
       t s σ (record { seen = λ i h. h; passed = λ q h. h })
 

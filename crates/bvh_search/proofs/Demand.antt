@@ -48,8 +48,8 @@ answered o w f p t bound n =
 -- nodes nw and nf, order o, a plan's words w and f whose objects have the boxes bs, and the tree t that the tables hold
 module _ (nw : List ℕ) (nf : List Float) (o w : List ℕ) (f : List Float) (bs : List Aabb) (t : Tree) (long : length nw ≡ 4599) (few : length bs ≤ 256)
     (all : length bs ≡ countOf objects w) (held : Accepted nw nf o bs t) (p : Vec3) (bound : DistHit) where
-  pub demand-three : T (eq (bound .d) (bound .d)) → Demand o w f p t bound (searchOf nw nf o w f p bound)
-  demand-three n = rw (search-walks nw nf o w f p long bs t held few all bound) (answered o w f p t bound n)
+  pub demand-met : T (eq (bound .d) (bound .d)) → Demand o w f p t bound (searchOf nw nf o w f p bound)
+  demand-met n = rw (search-walks nw nf o w f p long bs t held few all bound) (answered o w f p t bound n)
 
   -- each node is popped, and each object evaluated, at most once
   pub demand-counts : (searchOf nw nf o w f p bound .popped ≤ size t) × (size t ≤ 511) × (searchOf nw nf o w f p bound .evaluated ≤ countOf objects w)

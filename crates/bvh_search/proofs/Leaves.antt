@@ -38,6 +38,7 @@ module _ (w : List ℕ) (f : List Float) (o : List ℕ) (p : Vec3) (s : ℕ) (be
   hit-none = refl
 
   pub hit-more
-      : (j : ℕ) → leafHit w f o p s (j + 1) best ≡ closer (leafHit w f o p s j best) (hitOf (pieceIn w f o (s + j)) p)
+      : (j : ℕ) → leafHit w f o p s (j + 1) best ≡ closer (leafHit w f o p s j best)
+      (hitOf (pieceIn w f o (s + j)) p)
   unfolding leafHit
   hit-more j = rw (add-one, from-snoc (pieceIn w f o) s j, nearest-snoc)

@@ -59,7 +59,8 @@ root-le x y f g h k =
     (λ c. ⊎-elim
     (λ d. root-mono x y f g c d k)
     (λ q.
-    let z : T (le (rootOf x) zeroF) = subst (λ (z : Float). T (le (rootOf x) z)) zero-root (root-mono x zeroF f zero-fits c tt (le-trans x y zeroF k (q .1))) in
+    let z : T (le (rootOf x) zeroF) = subst (λ (z : Float). T (le (rootOf x) z)) zero-root
+    (root-mono x zeroF f zero-fits c tt (le-trans x y zeroF k (q .1))) in
     rw (q .0) (le-trans (rootOf x) zeroF y z j))
     (sort y j))
     (λ q. rw (q .0) (le-trans x zeroF (rootOf y) (q .1) (root-plus y g j)))
@@ -91,7 +92,8 @@ module _ (x : Float) (u : usual x ≡ true) where
 
   usual-plain : T (fits binary32 x) → T (plain x)
   usual-plain f =
-      plain-of x f (finite-between zeroF x greatest tt (unfold ofBits in tt) (lt-le zeroF x positive) (yes-of (both .1))) (positive-clear x positive)
+      plain-of x f (finite-between zeroF x greatest tt (unfold ofBits in tt) (lt-le zeroF x positive)
+      (yes-of (both .1))) (positive-clear x positive)
 
 module _ (s d : Float) (fs : T (fits binary32 s)) (us : usual s ≡ true) where
   pub far-by-bar : T (fits binary32 d) → usual d ≡ true → le (barOf d) s ≡ farOff s d
@@ -130,7 +132,8 @@ module _ (l r : Float) (fl : T (fits binary32 l)) (fr : T (fits binary32 r)) (hl
       go true true p q v = absurd (subst T (sym v) tt)
       go true false p q v =
           let h : T (le b (rootOf r)) = yes-of p in
-          sym (is-yes (lt-le-trans (rootOf l) b (rootOf r) (lt-of-not-le (rootOf l) b number-left (le-left b (rootOf r) h) (not-of q)) h))
+          sym (is-yes (lt-le-trans (rootOf l) b (rootOf r)
+          (lt-of-not-le (rootOf l) b number-left (le-left b (rootOf r) h) (not-of q)) h))
 
   pub by-far : not (farOff l (rootOf r)) ≡ leftFirst l r
   unfolding farOff leftFirst

@@ -40,21 +40,25 @@ module _ (o : List ℕ) (w : List ℕ) (f : List Float) (p : Vec3) where
 
     pub at-node
         : (b : Aabb) (l r : Tree) → (T (le (σ .best .d) (boxDist p b)) → P (skip o w f p (node b l r) s σ))
-        → P (walk r (s + weight l) (walk l s (more o w f p σ))) → P (walk l s (walk r (s + weight l) (more o w f p σ)))
+        → P (walk r (s + weight l) (walk l s (more o w f p σ))) → P
+        (walk l s (walk r (s + weight l) (more o w f p σ)))
         → P (walk (node b l r) s σ)
     unfolding visit
     at-node b l r far left right = go (le (σ .best .d) (boxDist p b)) refl (lt (near o w f p l) (near o w f p r))
       where
         go
             : (x : Bool) → le (σ .best .d) (boxDist p b) ≡ x → (y : Bool)
-            → P (cond x (skip o w f p (node b l r) s σ) (cond y (walk r (s + weight l) (walk l s (more o w f p σ))) (walk l s (walk r (s + weight l) (more o w f p σ)))))
+            → P (cond x (skip o w f p (node b l r) s σ)
+            (cond y (walk r (s + weight l) (walk l s (more o w f p σ)))
+            (walk l s (walk r (s + weight l) (more o w f p σ)))))
         go true e y = far (yes-of e)
         go false e true = left
         go false e false = right
 
   -- what each step keeps, a walk keeps
   module _ (P : Walk → Type 0)
-      (skips : (t : Tree) (s : ℕ) (σ : Walk) → T (le (σ .best .d) (near o w f p t)) → P σ → P (skip o w f p t s σ))
+      (skips : (t : Tree) (s : ℕ) (σ : Walk) → T (le (σ .best .d) (near o w f p t)) → P σ → P
+      (skip o w f p t s σ))
       (evaluates : (s c : ℕ) (σ : Walk) → P σ → P (evaluate o w f p s c σ))
       (opens : (σ : Walk) → P σ → P (more o w f p σ)) where
     pub keeps : (t : Tree) (s : ℕ) (σ : Walk) → P σ → P (walk t s σ)
@@ -74,7 +78,8 @@ module _ (o : List ℕ) (w : List ℕ) (f : List Float) (p : Vec3) where
 
   counts-then
       : (b : Aabb) (l r x y : Tree) (σ τ υ : Walk) → size x + size y ≡ size l + size r
-      → weight x + weight y ≡ weight l + weight r → Counts x (more o w f p σ) τ → Counts y τ υ → Counts (node b l r) σ υ
+      → weight x + weight y ≡ weight l + weight r → Counts x (more o w f p σ) τ → Counts y τ υ → Counts
+      (node b l r) σ υ
   counts-then b l r x y σ τ υ e g h k =
       record { pops = omega (arith, h .pops, k .pops); evals = omega (arith, h .evals, k .evals) }
 
@@ -88,5 +93,7 @@ module _ (o : List ℕ) (w : List ℕ) (f : List Float) (p : Vec3) where
       let σ-r = walk r (s + weight l) (more o w f p σ) in
       at-node (Counts (node b l r) σ) s σ b l r
       (λ _. record { pops = omega arith; evals = omega arith })
-      (counts-then b l r l r σ σ-l (walk r (s + weight l) σ-l) refl refl (counts l s (more o w f p σ)) (counts r (s + weight l) σ-l))
-      (counts-then b l r r l σ σ-r (walk l s σ-r) (omega arith) (omega arith) (counts r (s + weight l) (more o w f p σ)) (counts l s σ-r))
+      (counts-then b l r l r σ σ-l (walk r (s + weight l) σ-l) refl refl (counts l s (more o w f p σ))
+      (counts r (s + weight l) σ-l))
+      (counts-then b l r r l σ σ-r (walk l s σ-r) (omega arith) (omega arith)
+      (counts r (s + weight l) (more o w f p σ)) (counts l s σ-r))

@@ -41,7 +41,8 @@ module _ (nw : List ℕ) (nf : List Float) (o : List ℕ) (w : List ℕ) (f : Li
 
   -- ---- one pop
   pop
-      : (fuel a : ℕ) (rest : List ℕ) (σ : Walk) (l : List ℕ) (h : DistHit) (c : ℕ) → turn a rest (σ .best) ≡ on l h c
+      : (fuel a : ℕ) (rest : List ℕ) (σ : Walk) (l : List ℕ) (h : DistHit) (c : ℕ)
+      → turn a rest (σ .best) ≡ on l h c
       → run (suc fuel) (a ∷ rest) σ ≡ runOf nw nf o w f p fuel l h (σ .popped + 1) (length (σ .seen) + c)
   unfolding runOf
   pop fuel a rest σ l h c e = rw e
@@ -66,7 +67,8 @@ module _ (nw : List ℕ) (nf : List Float) (o : List ℕ) (w : List ℕ) (f : Li
 
     turn-leaf
         : (b : Aabb) (s c : ℕ) → nodeAt nw nf at ≡ leafNode b s c → at < 511 → 0 < c → s + c ≤ 256
-        → le (σ .best .d) (boxDist p b) ≡ false → turn at rest (σ .best) ≡ on rest (leafHit w f o p s c (σ .best)) c
+        → le (σ .best .d) (boxDist p b) ≡ false → turn at rest (σ .best) ≡ on rest
+        (leafHit w f o p s c (σ .best)) c
     unfolding turnOf nodeDist placesOf
     turn-leaf b s c v below some fits e =
         let ne : c ≡ 0 → ⊥ = λ z. omega arith in
@@ -101,13 +103,17 @@ module _ (nw : List ℕ) (nf : List Float) (o : List ℕ) (w : List ℕ) (f : Li
   seen-skip t at s fuel rest σ some h e = record {
     left = fuel;
     enough = omega arith;
-    goes = pop fuel at rest σ rest (σ .best) 0 (turn-skip at rest σ (near o w f p t) (stands-near at s t h) e) ∙ rw add-zero;
+    goes =
+        pop fuel at rest σ rest (σ .best) 0 (turn-skip at rest σ (near o w f p t) (stands-near at s t h) e)
+        ∙ rw add-zero;
   }
 
   module _ (lw : length nw ≡ 4599) where
     seen-leaf
-        : (b : Aabb) (c at s fuel : ℕ) (rest : List ℕ) (σ : Walk) → Fits (leaf b c) at s (suc fuel) rest → (x : Bool)
-        → le (σ .best .d) (boxDist p b) ≡ x → Seen (leaf b c) (suc fuel) (at ∷ rest) rest σ (walk (leaf b c) s σ)
+        : (b : Aabb) (c at s fuel : ℕ) (rest : List ℕ) (σ : Walk) → Fits (leaf b c) at s (suc fuel) rest
+        → (x : Bool)
+        → le (σ .best .d) (boxDist p b) ≡ x → Seen (leaf b c) (suc fuel) (at ∷ rest) rest σ
+        (walk (leaf b c) s σ)
     unfolding visit
     seen-leaf b c at s fuel rest σ h true e = rw e (seen-skip (leaf b c) at s fuel rest σ (omega arith) (h .stands) e)
     seen-leaf b c at s fuel rest σ h false e = rw e (record {
@@ -115,7 +121,8 @@ module _ (nw : List ℕ) (nf : List Float) (o : List ℕ) (w : List ℕ) (f : Li
       enough = omega arith;
       goes =
           pop fuel at rest σ rest (leafHit w f o p s c (σ .best)) c
-          (turn-leaf at rest σ b s c (h .stands .0) (stands-below nw nf lw at s (leaf b c) (h .stands)) (h .stands .1) (h .places) e) ∙
+          (turn-leaf at rest σ b s c (h .stands .0) (stands-below nw nf lw at s (leaf b c) (h .stands))
+          (h .stands .1) (h .places) e) ∙
           rw (length-seen (σ .seen) s c);
     })
 
@@ -124,7 +131,8 @@ module _ (nw : List ℕ) (nf : List Float) (o : List ℕ) (w : List ℕ) (f : Li
       -- a child seen with the other one waiting, or after it
       abbrev Sees : Tree → ℕ → ℕ → Type 0
       Sees t at s =
-          (k : ℕ) (rest′ : List ℕ) (σ : Walk) → size t ≤ k → length rest′ ≤ length rest + 1 → Seen t k (at ∷ rest′)
+          (k : ℕ) (rest′ : List ℕ) (σ : Walk) → size t ≤ k → length rest′ ≤ length rest + 1
+          → Seen t k (at ∷ rest′)
           rest′ σ (walk t s σ)
 
       seen-both
@@ -133,8 +141,14 @@ module _ (nw : List ℕ) (nf : List Float) (o : List ℕ) (w : List ℕ) (f : Li
           → Seen (node b l r) (suc fuel) (at ∷ rest) rest σ (walk y sy (walk x sx (more o w f p σ)))
       seen-both x y ax sx ay sy see-x see-y all e =
           let first = see-x fuel (ay ∷ rest) (more o w f p σ) (omega (arith, h .pops)) (omega arith) in
-          let second = see-y (first .left) rest (walk x sx (more o w f p σ)) (omega (arith, first .enough, h .pops)) (omega arith) in
-          record { left = second .left; enough = omega (arith, first .enough, second .enough); goes = e ∙ first .goes ∙ second .goes }
+          let second = see-y (first .left) rest (walk x sx (more o w f p σ)) (omega (arith, first .enough, h .pops))
+          (omega arith) in
+          record {
+            left = second .left;
+            enough = omega (arith, first .enough, second .enough);
+            goes = e
+                ∙ first .goes ∙ second .goes;
+          }
 
       -- the two children on the stack, the nearer on top
       abbrev two : Bool → List ℕ
@@ -152,7 +166,8 @@ module _ (nw : List ℕ) (nf : List Float) (o : List ℕ) (w : List ℕ) (f : Li
           → run (suc fuel) (at ∷ rest) σ ≡ run fuel (two x) (more o w f p σ)
       opened e x u =
           pop fuel at rest σ (two x) (σ .best) 0
-          (turn-node at rest σ b (at + 1 + size l) (h .stands .0) (stands-below nw nf lw at s (node b l r) (h .stands)) (omega (arith, h .room)) e ∙ rw (pushed-two x u)) ∙
+          (turn-node at rest σ b (at + 1 + size l) (h .stands .0)
+          (stands-below nw nf lw at s (node b l r) (h .stands)) (omega (arith, h .room)) e ∙ rw (pushed-two x u)) ∙
           rw add-zero
 
       module _ (see-l : Sees l (at + 1) s) (see-r : Sees r (at + 1 + size l) (s + weight l)) where
@@ -181,8 +196,10 @@ module _ (nw : List ℕ) (nf : List Float) (o : List ℕ) (w : List ℕ) (f : Li
     seen (node b l r) at s zero rest σ h = absurd (omega (arith, h .pops))
     seen (node b l r) at s (suc fuel) rest σ h =
         seen-node b l r at s fuel rest σ h
-        (λ k rest′ σ g d. seen l (at + 1) s k rest′ σ (record { stands = h .stands .1; places = omega (arith, h .places); pops = g; room = omega (arith, h .room) }))
-        (λ k rest′ σ g d. seen r (at + 1 + size l) (s + weight l) k rest′ σ (record { stands = h .stands .2; places = omega (arith, h .places); pops = g; room = omega (arith, h .room) }))
+        (λ k rest′ σ g d. seen l (at + 1) s k rest′ σ
+        (record { stands = h .stands .1; places = omega (arith, h .places); pops = g; room = omega (arith, h .room) }))
+        (λ k rest′ σ g d. seen r (at + 1 + size l) (s + weight l) k rest′ σ
+        (record { stands = h .stands .2; places = omega (arith, h .places); pops = g; room = omega (arith, h .room) }))
         (le (σ .best .d) (boxDist p b)) refl
 
     module _ (bs : List Aabb) (t : Tree) (h : Accepted nw nf o bs t) (few : length bs ≤ 256) where
@@ -200,6 +217,7 @@ module _ (nw : List ℕ) (nf : List Float) (o : List ℕ) (w : List ℕ) (f : Li
           → searchOf nw nf o w f p bound ≡ answer (visit o w f p t 0 (walkFrom bound))
       unfolding searchOf
       search-walks all bound =
-          let ne : countOf objects w ≡ 0 → ⊥ = λ z. omega (arith, weight-above nw nf 0 0 t (h .holds .stands), h .holds .all) in
+          let ne : countOf objects w ≡ 0 → ⊥ = λ z. omega
+          (arith, weight-above nw nf 0 0 t (h .holds .stands), h .holds .all) in
           let q = seen t 0 0 511 [] (walkFrom bound) root-fits in
           rw (ne-eqb (countOf objects w) 0 ne) (q .goes ∙ run-none (q .left) (visit o w f p t 0 (walkFrom bound)))

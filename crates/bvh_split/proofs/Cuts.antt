@@ -93,7 +93,8 @@ members-length bs [] = refl
 members-length bs (o ∷ os) = ap suc (members-length bs os)
 
 pub members-at
-    : (bs : List Aabb) (os : List ℕ) (i : ℕ) → i < length os → boxAt (members bs os) i ≡ boxAt bs (getD os i 0)
+    : (bs : List Aabb) (os : List ℕ) (i : ℕ) → i < length os
+    → boxAt (members bs os) i ≡ boxAt bs (getD os i 0)
 unfolding members
 members-at bs [] i h = absurd (omega arith)
 members-at bs (o ∷ os) zero h = refl

@@ -20,7 +20,8 @@ use Rattle.bvh_split.specs.Inside.Table.{tableBox, tableBoxes, putBox}
 
 same-or : (i j : ℕ) → (i ≡ j) ⊎ (i ≡ j → ⊥)
 same-or i j =
-    ⊎-elim (λ h. inr (λ e. omega arith)) (λ h. ⊎-elim (λ q. inr (λ e. omega arith)) (λ q. inl (omega arith)) (less-or j i)) (less-or i j)
+    ⊎-elim (λ h. inr (λ e. omega arith)) (λ h. ⊎-elim (λ q. inr (λ e. omega arith)) (λ q. inl (omega arith))
+    (less-or j i)) (less-or i j)
 
 pub box-count : (f : List Float) → length (tableBoxes f) ≡ length f / 6
 unfolding tableBoxes
@@ -62,7 +63,8 @@ module _ (f : List Float) (p : ℕ) (b : Aabb) (fit : p + 6 ≤ length f) where
   inner : (d : ℕ) → getD (with f p b) (p + d) nan ≡ getD (six b ++ drop (p + 6) f) d nan
   inner d =
       let e : length (take p f) ≡ p = length-take-le p f (omega arith) in
-      ap (λ (i : ℕ). getD (with f p b) (i + d) nan) (sym e) ∙ getD-append-add (take p f) (six b ++ drop (p + 6) f) d nan
+      ap (λ (i : ℕ). getD (with f p b) (i + d) nan) (sym e) ∙ getD-append-add (take p f)
+      (six b ++ drop (p + 6) f) d nan
 
   before : (j : ℕ) → j < p → getD (with f p b) j nan ≡ getD f j nan
   before j h =
@@ -90,7 +92,8 @@ module _ (f : List Float) (p : ℕ) (b : Aabb) (fit : p + 6 ≤ length f) where
 
 pub length-put-box : (f : List Float) (k : ℕ) (b : Aabb) → length (putBox f k b) ≡ length f
 length-put-box f k b =
-    ⊎-elim (λ h. rw (put-in f k b h) (length-with f (6 * k) b (omega arith))) (λ h. rw (put-out f k b h)) (less-or k (length f / 6))
+    ⊎-elim (λ h. rw (put-in f k b h) (length-with f (6 * k) b (omega arith))) (λ h. rw (put-out f k b h))
+    (less-or k (length f / 6))
 
 -- ---- a box put is read back, and no other changes
 box-same : (f : List Float) (k : ℕ) (b : Aabb) → k < length f / 6 → tableBox (with f (6 * k) b) k ≡ b
@@ -105,14 +108,22 @@ box-other f k j b h n =
     let g : (d : ℕ) → d < 6 → getD (with f (6 * k) b) (6 * j + d) nan ≡ getD f (6 * j + d) nan
     = λ d q. outer f (6 * k) b (omega arith) (6 * j + d)
     (⊎-elim (λ l. inl (omega arith)) (λ l. inr (omega (arith, ne l))) (less-or j k)) in
-    rw (rw add-zero at (g 0 (omega arith)), g 1 (omega arith), g 2 (omega arith), g 3 (omega arith), g 4 (omega arith), g 5 (omega arith))
+    rw (
+      rw add-zero at (g 0 (omega arith)),
+      g 1 (omega arith),
+      g 2 (omega arith),
+      g 3 (omega arith),
+      g 4 (omega arith),
+      g 5 (omega arith),
+    )
   where
     ne : k ≤ j → k < j
     ne l = ⊎-elim (λ q. q) (λ q. absurd (n (omega arith))) (less-or k j)
 
 pub boxes-put : (f : List Float) (k : ℕ) (b : Aabb) → tableBoxes (putBox f k b) ≡ set (tableBoxes f) k b
 boxes-put f k b =
-    ⊎-elim inside (λ h. ap tableBoxes (put-out f k b h) ∙ sym (set-out (tableBoxes f) k b (omega (arith, box-count f)))) (less-or k (length f / 6))
+    ⊎-elim inside (λ h. ap tableBoxes (put-out f k b h) ∙ sym
+    (set-out (tableBoxes f) k b (omega (arith, box-count f)))) (less-or k (length f / 6))
   where
     inside : k < length f / 6 → tableBoxes (putBox f k b) ≡ set (tableBoxes f) k b
     inside h =
@@ -126,6 +137,8 @@ boxes-put f k b =
         let r : i < length f / 6 = omega (arith, box-count w) in
         box-here w i (omega arith)
         ∙ ⊎-elim
-        (λ e. ap (tableBox w) e ∙ box-same f k b h ∙ sym (ap (λ (j : ℕ). boxAt (set (tableBoxes f) k b) j) e ∙ getD-set-same (tableBoxes f) k b noBox (omega (arith, box-count f))))
+        (λ e. ap (tableBox w) e ∙ box-same f k b h ∙ sym
+        (ap (λ (j : ℕ). boxAt (set (tableBoxes f) k b) j) e ∙ getD-set-same (tableBoxes f) k b noBox
+        (omega (arith, box-count f))))
         (λ n. box-other f k i b h n ∙ sym (getD-set-other (tableBoxes f) k i b noBox n ∙ box-here f i r))
         (same-or i k))

@@ -35,7 +35,8 @@ module _ (bs : List Aabb) (os : List ℕ) (i : ℕ) where
   members-none h = rw (drop-of-length-le os h)
 
   pub span-more : (s : Span) → i < length os
-      → spanFrom s (members bs (drop i os)) ≡ spanFrom (grow s (boxAt bs (getD os i 0))) (members bs (drop (i + 1) os))
+      → spanFrom s (members bs (drop i os)) ≡ spanFrom (grow s (boxAt bs (getD os i 0)))
+      (members bs (drop (i + 1) os))
   unfolding spanFrom
   span-more s h = rw (members-more h)
 
@@ -44,7 +45,8 @@ module _ (bs : List Aabb) (os : List ℕ) (i : ℕ) where
   span-none s h = rw (members-none h)
 
   bins-more : (g : Grid) (σ : Bins) → i < length os
-      → binsFrom g σ (members bs (drop i os)) ≡ binsFrom g (dropIn g σ (boxAt bs (getD os i 0))) (members bs (drop (i + 1) os))
+      → binsFrom g σ (members bs (drop i os)) ≡ binsFrom g (dropIn g σ (boxAt bs (getD os i 0)))
+      (members bs (drop (i + 1) os))
   unfolding binsFrom
   bins-more g σ h = rw (members-more h)
 
@@ -54,16 +56,19 @@ module _ (bs : List Aabb) (os : List ℕ) (i : ℕ) where
 
 -- a box dropped into the two arrays is dropped into the bins that they hold
 drop-binned : (g : Grid) (f f' : List Float) (n n' : List ℕ) (k : ℕ) (m : Aabb) → k ≡ binOf g m
-    → f' ≡ putBox f k (merge (boxAt (tableBoxes f) k) m) → n' ≡ set n k (plus (getD n k 0) 1) → binned f' n' ≡ dropIn g (binned f n) m
+    → f' ≡ putBox f k (merge (boxAt (tableBoxes f) k) m) → n' ≡ set n k (plus (getD n k 0) 1)
+    → binned f' n' ≡ dropIn g (binned f n) m
 unfolding dropIn
 drop-binned g f f' n n' k m e p q = rw (p, q, boxes-put, e)
 
 pub bins-turn
-    : (bs : List Aabb) (os : List ℕ) (i : ℕ) (g : Grid) (f f' : List Float) (n n' : List ℕ) (k : ℕ) (m : Aabb) (σ : Bins)
+    : (bs : List Aabb) (os : List ℕ) (i : ℕ) (g : Grid) (f f' : List Float) (n n' : List ℕ) (k : ℕ) (m : Aabb)
+    (σ : Bins)
     → i < length os
     → m ≡ boxAt bs (getD os i 0) → k ≡ binOf g m
     → f' ≡ putBox f k (merge (boxAt (tableBoxes f) k) m) → n' ≡ set n k (plus (getD n k 0) 1)
-    → binsFrom g (binned f n) (members bs (drop i os)) ≡ σ → binsFrom g (binned f' n') (members bs (drop (i + 1) os)) ≡ σ
+    → binsFrom g (binned f n) (members bs (drop i os)) ≡ σ → binsFrom g (binned f' n')
+    (members bs (drop (i + 1) os)) ≡ σ
 bins-turn bs os i g f f' n n' k m σ h e₁ e₂ p q v =
     rw (drop-binned g f f' n n' k m e₂ p q, e₁) (sym (bins-more bs os i g (binned f n) h) ∙ v)
 
@@ -80,7 +85,8 @@ module _ (t t' : List Float) (k : ℕ) (b : Aabb) (p : t' ≡ putBox t k b) wher
       (replicate-append-replicate k 1 nowhere ∙ ap (λ (n : ℕ). replicate n nowhere) (add-one k))
 
 pub empty-all
-    : (t : List Float) (k n : ℕ) → length t / 6 ≡ n → n ≤ k → k ≤ n → take k (tableBoxes t) ≡ replicate k nowhere
+    : (t : List Float) (k n : ℕ) → length t / 6 ≡ n → n ≤ k → k ≤ n
+    → take k (tableBoxes t) ≡ replicate k nowhere
     → tableBoxes t ≡ replicate n nowhere
 empty-all t k n e h h' p =
     let q : k ≡ n = omega arith in
@@ -88,11 +94,14 @@ empty-all t k n e h h' p =
 
 -- ---- over the bins, from the left
 module _ (σ : Bins) (i : ℕ) where
-  pub box-turn : (h h' m : Aabb) → h' ≡ merge h m → m ≡ boxAt (σ .boxes) i → h ≡ leftBox σ i → h' ≡ leftBox σ (i + 1)
+  pub box-turn
+      : (h h' m : Aabb) → h' ≡ merge h m → m ≡ boxAt (σ .boxes) i → h ≡ leftBox σ i
+      → h' ≡ leftBox σ (i + 1)
   unfolding leftBox
   box-turn h h' m p q e = rw (p, q, e, add-one)
 
-  pub count-turn : (n n' : ℕ) → n' ≡ plus n (getD (σ .counts) i 0) → n ≡ leftCount σ i → n' ≡ leftCount σ (i + 1)
+  pub count-turn
+      : (n n' : ℕ) → n' ≡ plus n (getD (σ .counts) i 0) → n ≡ leftCount σ i → n' ≡ leftCount σ (i + 1)
   unfolding leftCount
   count-turn n n' p e = rw (p, e, add-one)
 
@@ -109,7 +118,8 @@ pub sweep-more : (σ : Bins) (areas : List Float) (counts : List ℕ) (i : ℕ) 
     → areas ≡ listFrom (leftArea σ) 0 12 → counts ≡ listFrom (leftThrough σ) 0 12
     → sweepFrom σ i s
     ≡ sweepFrom σ (i - 1)
-    (choose (takeBin s (boxAt (σ .boxes) i) (getD (σ .counts) i 0)) (getD areas (i - 1) nan) (getD counts (i - 1) 0) i)
+    (choose (takeBin s (boxAt (σ .boxes) i) (getD (σ .counts) i 0)) (getD areas (i - 1) nan)
+    (getD counts (i - 1) 0) i)
 unfolding sweepFrom stepAt leftArea leftThrough
 sweep-more σ areas counts zero s h l p q = absurd (omega arith)
 sweep-more σ areas counts (suc k) s h l p q =
@@ -124,11 +134,13 @@ sweep-none σ (suc i) s h = absurd (omega arith)
 
 -- the bins of a range, filled and swept, from what each step says
 pub best-of
-    : (g : Grid) (ms : List Aabb) (f f' : List Float) (n n' : List ℕ) (areas : List Float) (counts : List ℕ) (m r : ℕ)
+    : (g : Grid) (ms : List Aabb) (f f' : List Float) (n n' : List ℕ) (areas : List Float) (counts : List ℕ)
+    (m r : ℕ)
     → m ≡ 12 → n ≡ replicate 12 0
     → tableBoxes f ≡ replicate m nowhere → binned f' n' ≡ binsFrom g (binned f n) ms
     → (areas ≡ listFrom (leftArea (binned f' n')) 0 12) × (counts ≡ listFrom (leftThrough (binned f' n')) 0 12)
-    → (areas ≡ listFrom (leftArea (binned f' n')) 0 12 → counts ≡ listFrom (leftThrough (binned f' n')) 0 12 → r ≡ splitBy (binned f' n'))
+    → (areas ≡ listFrom (leftArea (binned f' n')) 0 12 → counts ≡ listFrom (leftThrough (binned f' n')) 0 12
+    → r ≡ splitBy (binned f' n'))
     → r ≡ splitBy (binsFrom g noBins ms)
 best-of g ms f f' n n' areas counts m r e₁ e₂ p q l s =
     let e : binned f n ≡ noBins = rw (p, e₁, e₂) in
@@ -148,8 +160,10 @@ module _ (bs : List Aabb) (g : Grid) (split n i : ℕ) where
 
   -- by the test's outcome
   pub part-more
-      : (mid mid' : ℕ) (os os' : List ℕ) (b : Bool) (p : Parted) → i < n → goesLeft bs g split (getD os i 0) ≡ b
-      → mid' ≡ cond b (mid + 1) mid → os' ≡ cond b (swapped i mid os) os → partFrom bs g split (n - i) i mid os ≡ p
+      : (mid mid' : ℕ) (os os' : List ℕ) (b : Bool) (p : Parted) → i < n
+      → goesLeft bs g split (getD os i 0) ≡ b
+      → mid' ≡ cond b (mid + 1) mid → os' ≡ cond b (swapped i mid os) os → partFrom bs g split
+      (n - i) i mid os ≡ p
       → partFrom bs g split (n - (i + 1)) (i + 1) mid' os' ≡ p
   part-more mid mid' os os' b p h t m o q = rw (m, o, sym t) (sym (part-step mid os h) ∙ q)
 

@@ -38,7 +38,9 @@ cut-below (fin false m e) k h =
     let q : m * up e / down e < k = div-lt-iff-lt-mul (down-pos e) .1 (simp mul-one at g) in
     omega arith
 
-pub cut-above : (y : Float) (k : ℕ) → k < 2 ^ 64 → lt (whole 0) y ≡ true → lt y (whole k) ≡ false → k ≤ toUnsigned 64 y
+pub cut-above
+    : (y : Float) (k : ℕ) → k < 2 ^ 64 → lt (whole 0) y ≡ true → lt y (whole k) ≡ false
+    → k ≤ toUnsigned 64 y
 unfolding lt toUnsigned
 cut-above nan k b g h = absurd (subst T (sym g) tt)
 cut-above (inf true) k b g h = absurd (subst T (sym g) tt)

@@ -7,7 +7,8 @@ use lib.Dec.{T}
 use lib.Ieee.{Float, lt, eq, le}
 use Rattle.scalar.specs.Extremes.{fmax, fmin}
 use Rattle.float_order.specs.Inside.Order.{number, lessOf}
-use Rattle.float_order.proofs.Order.{yes-of, not-of, is-not, number-eq, le-left, le-right, le-refl, le-trans, lt-le, lt-left, lt-not-le, le-of-not-lt, le-antisym}
+use Rattle.float_order.proofs.Order.{yes-of, not-of, is-not, number-eq, le-left, le-right, le-refl, le-trans}
+use Rattle.float_order.proofs.Order.{lt-le, lt-left, lt-not-le, le-of-not-lt, le-antisym}
 
 either : (P : Float → Type 0) (p q : Bool) (a b : Float) → P a → P b → P (cond p a (cond q b a))
 either P true q a b x y = x

@@ -3,12 +3,14 @@
 use mathlib.Core.Path.{_≡_, refl, sym, ap, subst, _∙_}
 use mathlib.Core.Bool.{Bool, true, false, cond, not, _&&_, true≢false}
 use Prim.Native.Nat.{ℕ, zero, suc, _+_, _-_, _*_, _/_, _%_, _^_, _≤_, _<_}
-use native.Mathlib.Nat.{add-mul, mul-assoc, mul-comm, mul-right-comm, mul-pos, zero-lt-suc, mul-one, zero-mul, mul-lt-mul-of-pos-right, lt-of-lt-of-le, lt-of-not-le, not-le-of-lt, le-of-eq, le-of-suc-le-suc}
+use native.Mathlib.Nat.{add-mul, mul-assoc, mul-comm, mul-right-comm, mul-pos, zero-lt-suc, mul-one, zero-mul}
+use native.Mathlib.Nat.{mul-lt-mul-of-pos-right, lt-of-lt-of-le, lt-of-not-le, not-le-of-lt, le-of-eq, le-of-suc-le-suc}
 use native.Mathlib.Omega.{arith}
 use lib.Dec.{T, leb, ltb, eqb, ltb→lt, leb→le, eqb→eq}
 use lib.IntN.{ℤ, pos, negsuc}
 use lib.Pow.{pow-add, pow-pos, pow-lt}
-use lib.Ieee.{Float, nan, inf, fin, Format, prec, emax, low, up, down, size, hid, top, round, neg, add, sub, le, eq, fits, toBits, ofBits}
+use lib.Ieee.{Float, nan, inf, fin, Format, prec, emax, low, up, down, size, hid, top, round, neg, add, sub, le, eq}
+use lib.Ieee.{fits, toBits, ofBits}
 use lib.Ieee.Bits.{ofBits-toBits}
 use lib.Ieee.Nearest.{div-same}
 use lib.Ieee.Fits.{and-l, and-r, up-pos, down-pos}
@@ -17,42 +19,61 @@ use lib.Ieee.Digits.{back}
 use lib.Ieee.Positive.{den, den-pos}
 use lib.Ieee.Scale.{finite}
 use Rattle.float_order.specs.Inside.Order.{credit, debit, zeroF, Rounded, minusZero}
-use Rattle.float_order.proofs.Order.{finite-number, le→at-most, at-most→le, le-left, le-right, bottom-le, le-top, le-refl, le-trans, neg-le, neg-number}
-use Rattle.float_order.proofs.Rounding.{no-debit, rounded-mono, add-rounded, add-mono, add-inf-right, add-number'}
+use Rattle.float_order.proofs.Order.{finite-number, le→at-most, at-most→le, le-left, le-right, bottom-le}
+use Rattle.float_order.proofs.Order.{le-top, le-refl, le-trans, neg-le, neg-number}
+use Rattle.float_order.proofs.Rounding.{no-debit, rounded-mono, add-rounded, add-mono, add-inf-right}
+use Rattle.float_order.proofs.Rounding.{add-number'}
 
 -- ---- a value that the format holds is not rounded
 low-enough : (k l : ℕ) → 2 ^ k ≤ 2 ^ l → k ≤ l
 low-enough k l h = le-of-suc-le-suc (lt-of-not-le (λ g. not-le-of-lt (pow-lt g) h))
 
-pub round-up : (f : Format) (s : Bool) (m k : ℕ) → m < 2 ^ prec f → m * 2 ^ k < 2 ^ suc (emax f) * 1 → HasValue (round f s (m * 2 ^ k) 1) s (m * 2 ^ k) 1
+pub round-up
+    : (f : Format) (s : Bool) (m k : ℕ) → m < 2 ^ prec f → m * 2 ^ k < 2 ^ suc (emax f) * 1
+    → HasValue (round f s (m * 2 ^ k) 1) s (m * 2 ^ k) 1
 round-up f s m k h g =
     let l = low f in
-    let e : m * 2 ^ k * 2 ^ l ≡ m * 2 ^ (k + l) = mul-assoc m (2 ^ k) (2 ^ l) ∙ ap (λ (z : ℕ). m * z) (sym (pow-add 2 k l)) in
+    let e : m * 2 ^ k * 2 ^ l ≡ m * 2 ^ (k + l) = mul-assoc m (2 ^ k) (2 ^ l) ∙ ap (λ (z : ℕ). m * z)
+    (sym (pow-add 2 k l)) in
     round-exact f s (m * 2 ^ k) 1 m (k + l) (pow-pos 0) h
-    (subst (λ (z : ℕ). z < 2 ^ (l + suc (emax f))) e (lt-of-lt-of-le (mul-lt-mul-of-pos-right g (pow-pos l)) (le-of-eq (ap (λ (z : ℕ). z * 2 ^ l) (mul-one (2 ^ suc (emax f))) ∙ mul-comm (2 ^ suc (emax f)) (2 ^ l) ∙ sym (pow-add 2 l (suc (emax f)))))))
+    (subst (λ (z : ℕ). z < 2 ^ (l + suc (emax f))) e
+    (lt-of-lt-of-le (mul-lt-mul-of-pos-right g (pow-pos l))
+    (le-of-eq (ap (λ (z : ℕ). z * 2 ^ l) (mul-one (2 ^ suc (emax f))) ∙ mul-comm (2 ^ suc (emax f)) (2 ^ l)
+    ∙ sym (pow-add 2 l (suc (emax f)))))))
     (e ∙ sym (mul-one (m * 2 ^ (k + l))))
 
-round-down : (f : Format) (s : Bool) (m k : ℕ) → m < 2 ^ prec f → 2 ^ k ≤ 2 ^ low f → m * 1 < 2 ^ suc (emax f) * 2 ^ k → HasValue (round f s (m * 1) (2 ^ k)) s (m * 1) (2 ^ k)
+round-down
+    : (f : Format) (s : Bool) (m k : ℕ) → m < 2 ^ prec f → 2 ^ k ≤ 2 ^ low f
+    → m * 1 < 2 ^ suc (emax f) * 2 ^ k → HasValue (round f s (m * 1) (2 ^ k)) s (m * 1) (2 ^ k)
 round-down f s m k h d g =
     let l = low f in
     let j = l - k in
     let e : 2 ^ j * 2 ^ k ≡ 2 ^ l = sym (pow-add 2 j k) ∙ ap (λ (z : ℕ). 2 ^ z) (back l k (low-enough k l d)) in
     round-exact f s (m * 1) (2 ^ k) m j (pow-pos k) h
-    (lt-of-lt-of-le (mul-lt-mul-of-pos-right (subst (λ (z : ℕ). z < 2 ^ suc (emax f) * 2 ^ k) (mul-one m) g) (pow-pos j))
-    (le-of-eq (mul-assoc (2 ^ suc (emax f)) (2 ^ k) (2 ^ j) ∙ ap (λ (z : ℕ). 2 ^ suc (emax f) * z) (mul-comm (2 ^ k) (2 ^ j) ∙ e) ∙ mul-comm (2 ^ suc (emax f)) (2 ^ l) ∙ sym (pow-add 2 l (suc (emax f))))))
-    (ap (λ (z : ℕ). z * 2 ^ l) (mul-one m) ∙ ap (λ (z : ℕ). m * z) (sym e) ∙ sym (mul-assoc m (2 ^ j) (2 ^ k)))
+    (lt-of-lt-of-le (mul-lt-mul-of-pos-right (subst (λ (z : ℕ). z < 2 ^ suc (emax f) * 2 ^ k) (mul-one m) g)
+    (pow-pos j))
+    (le-of-eq (mul-assoc (2 ^ suc (emax f)) (2 ^ k) (2 ^ j) ∙ ap (λ (z : ℕ). 2 ^ suc (emax f) * z)
+    (mul-comm (2 ^ k) (2 ^ j) ∙ e) ∙ mul-comm (2 ^ suc (emax f)) (2 ^ l) ∙ sym (pow-add 2 l (suc (emax f))))))
+    (ap (λ (z : ℕ). z * 2 ^ l) (mul-one m) ∙ ap (λ (z : ℕ). m * z) (sym e) ∙ sym
+    (mul-assoc m (2 ^ j) (2 ^ k)))
 
-round-held : (f : Format) (s : Bool) (m : ℕ) (e : ℤ) → m < 2 ^ prec f → down e ≤ 2 ^ low f → m * up e < 2 ^ suc (emax f) * down e → HasValue (round f s (m * up e) (down e)) s (m * up e) (down e)
+round-held
+    : (f : Format) (s : Bool) (m : ℕ) (e : ℤ) → m < 2 ^ prec f → down e ≤ 2 ^ low f
+    → m * up e < 2 ^ suc (emax f) * down e → HasValue (round f s (m * up e) (down e)) s (m * up e) (down e)
 round-held f s m (pos k) h d g = round-up f s m k h g
 round-held f s m (negsuc k) h d g = round-down f s m (suc k) h d g
 
 round-none : (f : Format) (s : Bool) (u d : ℕ) → 0 < d → HasValue (round f s (0 * u) d) s (0 * u) d
-round-none f s u d D = round-exact f s (0 * u) d 0 0 D (pow-pos (prec f)) (pow-pos (low f + suc (emax f))) (ap (λ (z : ℕ). z * 2 ^ low f) (zero-mul u) ∙ none (2 ^ low f) d)
+round-none f s u d D =
+    round-exact f s (0 * u) d 0 0 D (pow-pos (prec f)) (pow-pos (low f + suc (emax f)))
+    (ap (λ (z : ℕ). z * 2 ^ low f) (zero-mul u) ∙ none (2 ^ low f) d)
   where
     none : (l d : ℕ) → 0 * l ≡ 0 * 1 * d
     none l d = omega arith
 
-pub fits-held : (f : Format) (s t : Bool) (m : ℕ) (e : ℤ) → T (fits f (fin t m e)) → HasValue (round f s (m * up e) (down e)) s (m * up e) (down e)
+pub fits-held
+    : (f : Format) (s t : Bool) (m : ℕ) (e : ℤ) → T (fits f (fin t m e))
+    → HasValue (round f s (m * up e) (down e)) s (m * up e) (down e)
 unfolding fits
 fits-held f s t zero e h = round-none f s (up e) (down e) (down-pos e)
 fits-held f s t (suc m) e h =
@@ -75,7 +96,9 @@ held-ge true m e (fin false n d) h = absurd (true≢false (sym (h .0)))
 held-ge false m e (fin true n d) h = absurd (true≢false (h .0))
 held-ge false m e (fin false n d) h = at-most→le (fin false n d) (fin false m e) tt tt (omega (arith, h .1))
 
-own : (f : Format) (s : Bool) (m : ℕ) (e : ℤ) → Rounded f (round f s (m * up e) (down e)) (credit (fin s m e)) (debit (fin s m e)) (down e)
+own
+    : (f : Format) (s : Bool) (m : ℕ) (e : ℤ)
+    → Rounded f (round f s (m * up e) (down e)) (credit (fin s m e)) (debit (fin s m e)) (down e)
 own f true m e = record { sign = true; size = m * up e; apart = omega arith; is = refl }
 own f false m e = record { sign = false; size = m * up e; apart = omega arith; is = refl }
 
@@ -83,10 +106,15 @@ module _ (f : Format) (x : Float) (held : T (fits f x)) (small : T (finite x)) (
   pub rounded-le : p * den x + debit x * c ≤ credit x * c + n * den x → T (le r x)
   rounded-le h = go x held small h
     where
-      go : (x : Float) → T (fits f x) → T (finite x) → p * den x + debit x * c ≤ credit x * c + n * den x → T (le r x)
+      go
+          : (x : Float) → T (fits f x) → T (finite x) → p * den x + debit x * c ≤ credit x * c + n * den x
+          → T (le r x)
       go nan k l h = absurd l
       go (inf s) k l h = absurd l
-      go (fin s m e) k l h = le-trans r (round f s (m * up e) (down e)) (fin s m e) (rounded-mono f r (round f s (m * up e) (down e)) p n c (credit (fin s m e)) (debit (fin s m e)) (down e) C (down-pos e) is (own f s m e) h) (held-ge s m e (round f s (m * up e) (down e)) (fits-held f s s m e k))
+      go (fin s m e) k l h =
+          le-trans r (round f s (m * up e) (down e)) (fin s m e)
+          (rounded-mono f r (round f s (m * up e) (down e)) p n c (credit (fin s m e)) (debit (fin s m e)) (down e) C
+          (down-pos e) is (own f s m e) h) (held-ge s m e (round f s (m * up e) (down e)) (fits-held f s s m e k))
 
 -- ---- a sum with what is not negative is no less, and with what is not positive no more
 

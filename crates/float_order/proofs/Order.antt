@@ -5,7 +5,8 @@ use mathlib.Core.Path.{_≡_, refl, sym, ap, subst}
 use mathlib.Core.Logic.{_⊎_, inl, inr}
 use mathlib.Core.Bool.{Bool, true, false, not, _&&_, _||_, Bool·beq}
 use Prim.Native.Nat.{ℕ, _+_, _*_, _≤_, _<_}
-use native.Mathlib.Nat.{le-of-eq, le-of-lt, eq-or-lt-of-le, le-of-mul-le-mul-right, mul-le-mul-right, add-mul, mul-assoc, mul-comm, mul-left-comm}
+use native.Mathlib.Nat.{le-of-eq, le-of-lt, eq-or-lt-of-le, le-of-mul-le-mul-right, mul-le-mul-right, add-mul}
+use native.Mathlib.Nat.{mul-assoc, mul-comm, mul-left-comm}
 use native.Mathlib.Omega.{arith}
 use lib.Dec.{T, ltb, eqb, ltb→lt, lt→ltb, nltb→le, eqb→eq, not-T, T-not}
 use lib.IntN.{ℤ}
@@ -67,16 +68,36 @@ finite-number (fin s m e) h = tt
 
 -- ---- the tests of two finite values, as the order of the fractions
 lt-or-eq : (a b : ℕ) (z : Bool) → T (ltb a b || (eqb a b && z)) → a ≤ b
-lt-or-eq a b z t = elim (or-split (ltb a b) (eqb a b && z) t) [ inl u ↦ le-of-lt (ltb→lt a b u) | inr u ↦ le-of-eq (eqb→eq a b (and-l (eqb a b) z u)) ]
+lt-or-eq a b z t =
+    elim (or-split (ltb a b) (eqb a b && z) t) [
+      | inl u ↦ le-of-lt (ltb→lt a b u)
+      | inr u ↦ le-of-eq
+          (eqb→eq a b (and-l (eqb a b) z u))
+    ]
 
 gt-or-eq : (a b : ℕ) → T (ltb b a || (eqb a b && true)) → b ≤ a
-gt-or-eq a b t = elim (or-split (ltb b a) (eqb a b && true) t) [ inl u ↦ le-of-lt (ltb→lt b a u) | inr u ↦ le-of-eq (sym (eqb→eq a b (and-l (eqb a b) true u))) ]
+gt-or-eq a b t =
+    elim (or-split (ltb b a) (eqb a b && true) t) [
+      | inl u ↦ le-of-lt (ltb→lt b a u)
+      | inr u ↦ le-of-eq
+          (sym (eqb→eq a b (and-l (eqb a b) true u)))
+    ]
 
 of-le : (a b : ℕ) → a ≤ b → T (ltb a b || (eqb a b && true))
-of-le a b h = elim (eq-or-lt-of-le h) [ inl p ↦ or-r (ltb a b) (eqb a b && true) (and-i (eqb a b) true (eq→eqb p) tt) | inr q ↦ or-l (ltb a b) (eqb a b && true) (lt→ltb a b q) ]
+of-le a b h =
+    elim (eq-or-lt-of-le h) [
+      | inl p ↦ or-r (ltb a b) (eqb a b && true)
+          (and-i (eqb a b) true (eq→eqb p) tt)
+      | inr q ↦ or-l (ltb a b) (eqb a b && true) (lt→ltb a b q)
+    ]
 
 of-ge : (a b : ℕ) → b ≤ a → T (ltb b a || (eqb a b && true))
-of-ge a b h = elim (eq-or-lt-of-le h) [ inl p ↦ or-r (ltb b a) (eqb a b && true) (and-i (eqb a b) true (eq→eqb (sym p)) tt) | inr q ↦ or-l (ltb b a) (eqb a b && true) (lt→ltb b a q) ]
+of-ge a b h =
+    elim (eq-or-lt-of-le h) [
+      | inl p ↦ or-r (ltb b a) (eqb a b && true)
+          (and-i (eqb a b) true (eq→eqb (sym p)) tt)
+      | inr q ↦ or-l (ltb b a) (eqb a b && true) (lt→ltb b a q)
+    ]
 
 zeros : (a b : ℕ) → a + b ≤ 0 → T (eqb a b && eqb a 0)
 zeros a b h =
@@ -85,7 +106,12 @@ zeros a b h =
     and-i (eqb a b) (eqb a 0) (eq→eqb p) (eq→eqb q)
 
 minus-plus : (a b : ℕ) → T (ltb 0 (a + b) || (eqb a b && eqb a 0))
-minus-plus a b = elim (decide (ltb 0 (a + b))) [ inl t ↦ or-l (ltb 0 (a + b)) (eqb a b && eqb a 0) t | inr f ↦ or-r (ltb 0 (a + b)) (eqb a b && eqb a 0) (zeros a b (nltb→le 0 (a + b) (not-T (ltb 0 (a + b)) f))) ]
+minus-plus a b =
+    elim (decide (ltb 0 (a + b))) [
+      | inl t ↦ or-l (ltb 0 (a + b)) (eqb a b && eqb a 0) t
+      | inr f ↦ or-r
+          (ltb 0 (a + b)) (eqb a b && eqb a 0) (zeros a b (nltb→le 0 (a + b) (not-T (ltb 0 (a + b)) f)))
+    ]
 
 pub le→at-most : (x y : Float) → T (finite x) → T (finite y) → T (le x y) → AtMost x y
 unfolding le
@@ -95,8 +121,10 @@ le→at-most (fin s m e) nan p q h = absurd q
 le→at-most (fin s m e) (inf t) p q h = absurd q
 le→at-most (fin false m e) (fin false n d) p q h = let k = lt-or-eq (m * up e * down d) (n * up d * down e) true h in omega arith
 le→at-most (fin false m e) (fin true n d) p q h =
-    let k = eqb→eq (m * up e * down d) (n * up d * down e) (and-l (eqb (m * up e * down d) (n * up d * down e)) (eqb (m * up e * down d) 0) h) in
-    let l = eqb→eq (m * up e * down d) 0 (and-r (eqb (m * up e * down d) (n * up d * down e)) (eqb (m * up e * down d) 0) h) in
+    let k = eqb→eq (m * up e * down d) (n * up d * down e)
+    (and-l (eqb (m * up e * down d) (n * up d * down e)) (eqb (m * up e * down d) 0) h) in
+    let l = eqb→eq (m * up e * down d) 0 (and-r (eqb (m * up e * down d) (n * up d * down e))
+    (eqb (m * up e * down d) 0) h) in
     omega arith
 le→at-most (fin true m e) (fin false n d) p q h = omega arith
 le→at-most (fin true m e) (fin true n d) p q h = let k = gt-or-eq (m * up e * down d) (n * up d * down e) h in omega arith
@@ -197,7 +225,9 @@ le-refl (inf false) h = le-top (inf false) h
 le-refl (fin s m e) h = at-most→le (fin s m e) (fin s m e) tt tt (omega arith)
 
 -- (a - a') / c ≤ (b - b') / d ≤ (k - k') / l
-chain : (a a' c b b' d k k' l : ℕ) → 0 < d → a * d + b' * c ≤ b * c + a' * d → b * l + k' * d ≤ k * d + b' * l → a * l + k' * c ≤ k * c + a' * l
+chain
+    : (a a' c b b' d k k' l : ℕ) → 0 < d → a * d + b' * c ≤ b * c + a' * d
+    → b * l + k' * d ≤ k * d + b' * l → a * l + k' * c ≤ k * c + a' * l
 chain a a' c b b' d k k' l D h g =
     let p = simp (add-mul, mul-assoc, mul-comm) at (mul-le-mul-right l h) in
     let q = simp (add-mul, mul-assoc, mul-comm, mul-left-comm) at (mul-le-mul-right c g) in
@@ -205,10 +235,13 @@ chain a a' c b b' d k k' l D h g =
     le-of-mul-le-mul-right r D
 
 pub at-most-trans : (x y z : Float) → AtMost x y → AtMost y z → AtMost x z
-at-most-trans x y z h k = chain (credit x) (debit x) (den x) (credit y) (debit y) (den y) (credit z) (debit z) (den z) (den-pos y) h k
+at-most-trans x y z h k =
+    chain (credit x) (debit x) (den x) (credit y) (debit y) (den y) (credit z) (debit z) (den z) (den-pos y) h k
 
-le-trans-finite : (x y z : Float) → T (finite x) → T (finite y) → T (finite z) → T (le x y) → T (le y z) → T (le x z)
-le-trans-finite x y z p q r h k = at-most→le x z p r (at-most-trans x y z (le→at-most x y p q h) (le→at-most y z q r k))
+le-trans-finite
+    : (x y z : Float) → T (finite x) → T (finite y) → T (finite z) → T (le x y) → T (le y z) → T (le x z)
+le-trans-finite x y z p q r h k =
+    at-most→le x z p r (at-most-trans x y z (le→at-most x y p q h) (le→at-most y z q r k))
 
 pub le-trans : (x y z : Float) → T (le x y) → T (le y z) → T (le x z)
 le-trans x y z h k = go x y z h k
@@ -245,10 +278,16 @@ lt-not-le (fin s m e) (inf false) h k = k
 lt-not-le (fin s m e) (fin t n d) h k = lt-not-le-finite (fin s m e) (fin t n d) tt tt h k
 
 le-or-lt-finite : (x y : Float) → T (finite x) → T (finite y) → T (le x y) ⊎ T (lt y x)
-le-or-lt-finite x y p q = elim (decide (lt y x)) [ inl h ↦ inr h | inr f ↦ inl (at-most→le x y p q (not-under x y (λ u. f (under→lt y x q p u)))) ]
+le-or-lt-finite x y p q =
+    elim (decide (lt y x)) [
+      | inl h ↦ inr h
+      | inr f ↦ inl
+          (at-most→le x y p q (not-under x y (λ u. f (under→lt y x q p u))))
+    ]
   where
     not-under : (x y : Float) → (Under y x → ⊥) → AtMost x y
-    not-under x y f = le-of-not (credit x * den y + debit y * den x) (credit y * den x + debit x * den y) (λ g. f (omega (arith, g)))
+    not-under x y f =
+        le-of-not (credit x * den y + debit y * den x) (credit y * den x + debit x * den y) (λ g. f (omega (arith, g)))
       where
         le-of-not : (m n : ℕ) → (n < m → ⊥) → m ≤ n
         le-of-not m n f = omega arith
@@ -273,7 +312,9 @@ pub lt-of-not-le : (x y : Float) → T (number x) → T (number y) → (T (le y 
 lt-of-not-le x y p q f = elim (le-or-lt y x q p) [ inl h ↦ absurd (f h) | inr l ↦ l ]
 
 pub lt-is-not-le : (x y : Float) → T (number x) → T (number y) → lt x y ≡ not (le y x)
-lt-is-not-le x y p q = same-test (lt x y) (not (le y x)) (λ h. not-T (le y x) (lt-not-le x y h)) (λ h. lt-of-not-le x y p q (T-not (le y x) h))
+lt-is-not-le x y p q =
+    same-test (lt x y) (not (le y x)) (λ h. not-T (le y x) (lt-not-le x y h))
+    (λ h. lt-of-not-le x y p q (T-not (le y x) h))
 
 -- ---- strict and not
 pub lt-le : (x y : Float) → T (lt x y) → T (le x y)
@@ -307,7 +348,8 @@ number-is (fin s m e) = refl
 
 -- as a program tests it
 pub number-eq : (x : Float) → eq x x ≡ number x
-number-eq x = same-test (eq x x) (number x) (λ h. le-left x x (eq-le x x h)) (λ h. le-antisym x x (le-refl x h) (le-refl x h))
+number-eq x =
+    same-test (eq x x) (number x) (λ h. le-left x x (eq-le x x h)) (λ h. le-antisym x x (le-refl x h) (le-refl x h))
 
 -- ---- `neg` turns the order round
 pub neg-number : (x : Float) → T (number x) → T (number (neg x))
@@ -327,9 +369,13 @@ neg-at-most (fin false m e) (fin true n d) p q h = omega arith
 neg-at-most (fin true m e) (fin false n d) p q h = omega arith
 neg-at-most (fin true m e) (fin true n d) p q h = omega arith
 
-neg-le-finite : (s : Bool) (m : ℕ) (e : ℤ) (t : Bool) (n : ℕ) (d : ℤ) → T (le (fin s m e) (fin t n d)) → T (le (neg (fin t n d)) (neg (fin s m e)))
+neg-le-finite
+    : (s : Bool) (m : ℕ) (e : ℤ) (t : Bool) (n : ℕ) (d : ℤ) → T (le (fin s m e) (fin t n d))
+    → T (le (neg (fin t n d)) (neg (fin s m e)))
 unfolding neg
-neg-le-finite s m e t n d h = at-most→le (fin (not t) n d) (fin (not s) m e) tt tt (neg-at-most (fin s m e) (fin t n d) tt tt (le→at-most (fin s m e) (fin t n d) tt tt h))
+neg-le-finite s m e t n d h =
+    at-most→le (fin (not t) n d) (fin (not s) m e) tt tt
+    (neg-at-most (fin s m e) (fin t n d) tt tt (le→at-most (fin s m e) (fin t n d) tt tt h))
 
 pub neg-le : (x y : Float) → T (le x y) → T (le (neg y) (neg x))
 unfolding neg

@@ -27,7 +27,9 @@ root-top : rootOf (inf false) ≡ inf false
 unfolding rootOf
 root-top = refl
 
-pub root-mono : (x y : Float) → T (fits binary32 x) → T (fits binary32 y) → T (clear x) → T (clear y) → T (le x y) → T (le (rootOf x) (rootOf y))
+pub root-mono
+    : (x y : Float) → T (fits binary32 x) → T (fits binary32 y) → T (clear x) → T (clear y) → T (le x y)
+    → T (le (rootOf x) (rootOf y))
 root-mono nan y f g c d h = absurd c
 root-mono (inf true) y f g c d h = absurd c
 root-mono (inf false) y f g c d h = rw (top-le y h, root-top) (le-top (inf false) tt)

@@ -45,7 +45,8 @@ unfolding edges edge
 alternating true = refl
 alternating false = refl
 
-two-parts : (a b : Bool) (v w : Vec3) → length (cond a (v ∷ []) [] ++ cond (Bool·beq a b) [] (w ∷ [])) ≡ edge a b
+two-parts
+    : (a b : Bool) (v w : Vec3) → length (cond a (v ∷ []) [] ++ cond (Bool·beq a b) [] (w ∷ [])) ≡ edge a b
 unfolding edge
 two-parts true true v w = refl
 two-parts true false v w = refl

@@ -22,7 +22,8 @@ more : (xs ys : List Vec3) {l r : List Vec3} → l ≡ take 5 xs → r ≡ take 
 more xs ys e h = h ∙ rw e (cut-more 5 xs ys)
 
 pub two-more :
-    (xs : List Vec3) (a b : Vec3) {l r : List Vec3} → l ≡ take 5 (xs ++ (a ∷ [])) → r ≡ take 5 (l ++ (b ∷ []))
+    (xs : List Vec3) (a b : Vec3) {l r : List Vec3} → l ≡ take 5 (xs ++ (a ∷ [])) → r ≡ take 5
+    (l ++ (b ∷ []))
     → r ≡ take 5 (xs ++ (a ∷ b ∷ []))
 two-more xs a b e h = more (xs ++ (a ∷ [])) (b ∷ []) e h ∙ ap (take 5) (append-assoc xs (a ∷ []) (b ∷ []))
 

@@ -19,7 +19,8 @@ use Rattle.plan.specs.Plan.{Cuts, Piece, cutsBy, pieceAt, piecesFrom}
 use Rattle.plan.specs.Nearest.{cutBy, carve, hitOf, closer, nearest}
 
 -- one more at the end is one more step
-carve-snoc : (cs : Cuts) (c : Cutter) (p : Vec3) (d : Float) → carve (cs ++ (c ∷ [])) p d ≡ cutBy c p (carve cs p d)
+carve-snoc
+    : (cs : Cuts) (c : Cutter) (p : Vec3) (d : Float) → carve (cs ++ (c ∷ [])) p d ≡ cutBy c p (carve cs p d)
 unfolding carve
 carve-snoc [] c p d = refl
 carve-snoc (x ∷ cs) c p d = carve-snoc cs c p (cutBy x p d)
@@ -65,7 +66,8 @@ module _ (w : List ℕ) (f : List Float) where
 
   pub nearest-more
       : (r j : ℕ) (p : Vec3) (best : DistHit)
-      → nearest (piecesFrom w f r (j + 1)) p best ≡ closer (nearest (piecesFrom w f r j) p best) (hitOf (pieceAt w f (r + j)) p)
+      → nearest (piecesFrom w f r (j + 1)) p best ≡ closer (nearest (piecesFrom w f r j) p best)
+      (hitOf (pieceAt w f (r + j)) p)
   unfolding piecesFrom
   nearest-more r j p best = rw (add-one, from-snoc (pieceAt w f) r j, nearest-snoc)
 

@@ -103,7 +103,9 @@ same-float v w i e =
 abbrev pub Kept : List ℕ → List ℕ → ℕ → Type 0
 Kept v w r = Alike 16 v w (seen v) (seen w) r r
 
-pub kept : (v w : List ℕ) (r : ℕ) → ((k : ℕ) → k < 16 → wordOf v (16 * r + k) ≡ wordOf w (16 * r + k)) → Kept v w r
+pub kept
+    : (v w : List ℕ) (r : ℕ) → ((k : ℕ) → k < 16 → wordOf v (16 * r + k) ≡ wordOf w (16 * r + k))
+    → Kept v w r
 kept v w r h = record { word = h; float = λ k p. same-float v w (16 * r + k) (h k p) }
 
 -- a row whose first words are those of another

@@ -29,7 +29,8 @@ use Rattle.plan_entry.specs.Entry.{firstWord, recordWords}
 use Rattle.plan_entry.specs.Entry.{putRow, putCutters, newPlace, oneMore, withPiece, withMaterialWords}
 use Rattle.plan_entry.specs.Entry.{withLightWords}
 use Rattle.plan_entry.specs.After.{givenPiece, withOne}
-use Rattle.plan_entry.proofs.Lists.{length-row, row-here, row-other, length-cutters, cutters-other, cutters-here}
+use Rattle.plan_entry.proofs.Lists.{length-row, row-here, row-other, length-cutters, cutters-other}
+use Rattle.plan_entry.proofs.Lists.{cutters-here}
 use Rattle.plan_entry.proofs.Given.{new-cutter, new-piece, new-record}
 use Rattle.plan_entry.proofs.Accepts.{Accepted, accepted, taken}
 
@@ -208,7 +209,8 @@ module _ (w v : List ℕ) (c x row place : ℕ) (among : Bool) (s : SoundSolids 
       t .rest .row r (omega arith) (inr (omega arith), inl (omega arith)))
 
   materials-stay
-      : listFrom (materialAt (seen v)) 1 (countOf materials w) ≡ listFrom (materialAt (seen w)) 1 (countOf materials w)
+      : listFrom (materialAt (seen v)) 1 (countOf materials w) ≡ listFrom (materialAt (seen w)) 1
+      (countOf materials w)
   materials-stay =
       materials-kept v w (countOf materials w)
       (λ j p. let m = f .materials in t .rest .row (1 + j) (omega arith) (inl (omega arith), inl (omega arith)))
@@ -301,14 +303,26 @@ placed-for true w a =
     let o = u .1 in
     let r = a .room in
     let e = plane-at (solidsOf (planIn w)) (argCuts w) in
-    record { below = omega arith; above = omega arith; plane = λ _. omega arith; object = λ x. absurd (true≢false x) }
+    record {
+      below = omega arith;
+      above = omega arith;
+      plane = λ _. omega arith;
+      object = λ x. absurd
+          (true≢false x);
+    }
 placed-for false w a =
     let u = solids-used (planIn w) (a .solids) in
     let p = u .0 in
     let o = u .1 in
     let r = a .room in
     let e = object-at (solidsOf (planIn w)) (argCuts w) (omega arith) in
-    record { below = omega arith; above = omega arith; plane = λ x. absurd (false≢true x); object = λ _. omega arith }
+    record {
+      below = omega arith;
+      above = omega arith;
+      plane = λ x. absurd
+          (false≢true x);
+      object = λ _. omega arith;
+    }
 
 pub piece-entered
     : (before : ℕ) (among : Bool) (w : List ℕ) (bytes : ℕ)

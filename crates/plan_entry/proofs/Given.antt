@@ -35,7 +35,9 @@ shape8 k g =
     (fl (g 7))
     (fl (g 8))
 
-prim-words : (w : List ℕ) (i : ℕ) → i + 8 < 27296 → primOf w (seen w) i ≡ shape8 (wordOf w i) (λ k. wordOf w (i + k))
+prim-words
+    : (w : List ℕ) (i : ℕ) → i + 8 < 27296
+    → primOf w (seen w) i ≡ shape8 (wordOf w i) (λ k. wordOf w (i + k))
 prim-words w i h =
     rw (
       float-of w (i + 1) (omega arith),
@@ -115,7 +117,9 @@ used-most k j h = most (eqb k 0 || eqb k 2) (eqb k 4) (eqb k 6) h
     most false false false p = omega arith
 
 -- what holds of each of eight
-each8 : (P : ℕ → Type 0) → P 0 → P 1 → P 2 → P 3 → P 4 → P 5 → P 6 → P 7 → (k : ℕ) → k < 8 → P k
+each8
+    : (P : ℕ → Type 0) → P 0 → P 1 → P 2 → P 3 → P 4 → P 5 → P 6 → P 7 → (k : ℕ) → k < 8
+    → P k
 each8 P a b c d e f g h zero p = a
 each8 P a b c d e f g h (suc zero) p = b
 each8 P a b c d e f g h (suc (suc zero)) p = c
@@ -171,7 +175,8 @@ module _ (v w : List ℕ) (r : ℕ) (low : r < 1706) where
   unfolding cutterAt
   new-cutter a la known h =
       let kind : wordOf v (16 * r) ≡ wordOf w (16 * a) = first (cutterWords w a) h in
-      let at : (k : ℕ) → k < 8 → getD (cutterWords w a) (1 + k) 0 ≡ usedWord w (16 * a + 1) (wordOf w (16 * a)) k
+      let at : (k : ℕ) → k < 8 → getD (cutterWords w a) (1 + k) 0 ≡ usedWord w (16 * a + 1)
+      (wordOf w (16 * a)) k
       = each8 (λ k. getD (cutterWords w a) (1 + k) 0 ≡ usedWord w (16 * a + 1) (wordOf w (16 * a)) k)
       refl refl refl refl refl refl refl refl in
       let eight : (k : ℕ) → k < 8 → wordOf v (16 * r + suc k) ≡ usedWord w (16 * a + 1) (wordOf w (16 * a)) k

@@ -55,7 +55,8 @@ pub row-other
     → getD (putRow w r words) k 0 ≡ getD w k 0
 row-other w r words k l h =
     ⊎-elim
-    (λ p. rw (row-in w r words p) (getD-sets-out w (16 * r) words k (⊎-elim (λ q. inl q) (λ q. inr (omega arith)) h)))
+    (λ p. rw (row-in w r words p) (getD-sets-out w (16 * r) words k
+    (⊎-elim (λ q. inl q) (λ q. inr (omega arith)) h)))
     (λ p. rw (row-out w r words p))
     (less-or r 1393)
 
@@ -130,7 +131,8 @@ module _ (w : List ℕ) (place : ℕ) where
             let e : j ≡ n = omega arith in
             let words : List ℕ = cutterWords w (1394 + n) in
             subst
-            (λ (i : ℕ). getD (putRow v row words) (16 * (369 + place + i) + k) 0 ≡ getD (cutterWords w (1394 + i)) k 0)
+            (λ (i : ℕ). getD (putRow v row words) (16 * (369 + place + i) + k) 0 ≡ getD
+            (cutterWords w (1394 + i)) k 0)
             (sym e)
             (row-here v row words k (length-cutters n ∙ len) (omega arith) refl p)
         | no g ↦
@@ -156,7 +158,8 @@ module _ (w : List ℕ) (place : ℕ) where
 
 -- ---- what an entry answers and leaves, from what its calls gave
 pub adds-piece
-    : (before : ℕ) (among : Bool) {w : List ℕ} (f : List Float) (bytes : ℕ) {s : Solids} {no n place : ℕ} {r : Added}
+    : (before : ℕ) (among : Bool) {w : List ℕ} (f : List Float)
+    (bytes : ℕ) {s : Solids} {no n place : ℕ} {r : Added}
     {w′ : List ℕ}
     → s ≡ solidsOf (planOf w f)
     → no ≡ pieceNumber before among w f s bytes

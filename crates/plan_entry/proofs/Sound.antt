@@ -79,7 +79,8 @@ piece-lit true p o s f = record { solids = piece-sound true p o (s .solids) f; l
 piece-lit false p o s f = record { solids = piece-sound false p o (s .solids) f; lights = s .lights }
 
 -- a piece's material is present where there are more
-more-materials : (among : Bool) (m n : ℕ) → m ≤ n → (os : List Piece) → PiecesOk among m os → PiecesOk among n os
+more-materials
+    : (among : Bool) (m n : ℕ) → m ≤ n → (os : List Piece) → PiecesOk among m os → PiecesOk among n os
 more-materials among m n h os s =
     record { each = all-map (PieceOk among m) (PieceOk among n) one os (s .each); places = s .places }
   where
@@ -116,7 +117,8 @@ material-sound p m s h =
       room = s .room;
     }
 
-pub material-lit : (p : Plan) (m : Material) → SoundLit p → length (p .materials) < 64 → SoundLit (withMaterial p m)
+pub material-lit
+    : (p : Plan) (m : Material) → SoundLit p → length (p .materials) < 64 → SoundLit (withMaterial p m)
 material-lit p m s h = record { solids = material-sound p m (s .solids) h; lights = s .lights }
 
 pub light-sound

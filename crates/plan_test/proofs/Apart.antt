@@ -67,7 +67,8 @@ EndsBefore a b = a .head .place + a .head .cutters ≤ b .head .place
 
 -- a stands before b
 module _ (a b : Piece) (xs ys zs : List Piece) where
-  pub objects-apart : (p : Plan) → SoundObjects p → p .objects ≡ xs ++ (a ∷ (ys ++ (b ∷ zs))) → EndsBefore a b
+  pub objects-apart
+      : (p : Plan) → SoundObjects p → p .objects ≡ xs ++ (a ∷ (ys ++ (b ∷ zs))) → EndsBefore a b
   objects-apart p s e =
       let q = places-after false 0 xs (a ∷ (ys ++ (b ∷ zs))) (rw e at (s .objects .places)) in
       let t = places-after false (0 + cuttersOf xs + a .head .cutters) ys (b ∷ zs) (q .1) in

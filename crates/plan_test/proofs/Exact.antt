@@ -205,7 +205,8 @@ module _ (p : Plan) where
   unfolding solidsOf tallyOf
   used e = (rw e, rw e)
 
-  pub solids-used : solidsOf p .number ≡ 0 → (solidsOf p .planes ≡ planesUsed) × (solidsOf p .objects ≡ objectsUsed)
+  pub solids-used
+      : solidsOf p .number ≡ 0 → (solidsOf p .planes ≡ planesUsed) × (solidsOf p .objects ≡ objectsUsed)
   solids-used e = used (counts-exact p .1 (solids-exact .0 e .counts))
 
   pub lit-exact : (litNumber p ≡ 0) ↔ SoundLit p

@@ -98,7 +98,8 @@ module _ (w : List ℕ) (f : List Float) (r : ℕ) where
 pub sum-words : (used n j : ℕ) → used ≤ 4294967295 * j → n ≤ 4294967295 → used + n ≤ 4294967295 * (j + 1)
 sum-words used n j h k = omega arith
 
-pub sum-fits : (used n j : ℕ) → used ≤ 4294967295 * j → j < 4294967295 → n ≤ 4294967295 → Fits w64 (used + n)
+pub sum-fits
+    : (used n j : ℕ) → used ≤ 4294967295 * j → j < 4294967295 → n ≤ 4294967295 → Fits w64 (used + n)
 sum-fits used n j h l k = record { fits = omega arith }
 
 -- ---- a plan's number, of the words that the code reads

@@ -31,7 +31,7 @@ use Rattle.bvh_rules.proofs.Exact.{standing-exact}
 use Rattle.bvh_search.specs.declared.Searched.{Searched}
 use Rattle.bvh_search.specs.Field.{hitBy, fieldBy}
 use Rattle.bvh_search.specs.Demand.{Demand}
-use Rattle.bvh_search.proofs.Demand.{demand-three, search-empty}
+use Rattle.bvh_search.proofs.Demand.{demand-met, search-empty}
 use Rattle.panel.specs.Panels.{panelsNumber}
 use Rattle.reply.specs.declared.Reply.{Reply}
 use Rattle.reply.specs.Reply.{refusedReply, replyOf}
@@ -85,7 +85,7 @@ module _ (w : List ℕ) (long : length w ≡ tableWords) where
       inl (z, search-empty (nodesOf w) (nodesOf f) (orderOf w) w f p bound z))
       (λ t.
       inr (searches p bound (hitBy 1 w f p bound) (t .0) (t .1)
-      (demand-three (nodesOf w) (nodesOf f) (orderOf w) w f bs (t .0) nodes few (box-count w f) (t .1) p bound n)))
+      (demand-met (nodesOf w) (nodesOf f) (orderOf w) w f bs (t .0) nodes few (box-count w f) (t .1) p bound n)))
       (standing-exact (nodesOf w) (nodesOf f) (orderOf w) bs nodes few .0 e)
 
 -- ---- the planes' nearest is a number to start from

@@ -49,16 +49,20 @@ pub lower-assoc : (a b c : ℕ) → lower a (lower b c) ≡ lower (lower a b) c
 lower-assoc zero b c = rw (lower-first (lower b c), lower-first b)
 lower-assoc (suc a) zero c = rw (lower-first c, lower-none (suc a))
 lower-assoc (suc a) (suc b) zero = rw (lower-none (suc b), lower-some a b, lower-none (suc (min a b)))
-lower-assoc (suc a) (suc b) (suc c) = rw (lower-some b c, lower-some a b, lower-some a (min b c), lower-some (min a b) c) (ap suc (omega arith))
+lower-assoc (suc a) (suc b) (suc c) =
+    rw (lower-some b c, lower-some a b, lower-some a (min b c), lower-some (min a b) c) (ap suc (omega arith))
 
 -- ---- the lowest of a list
 module _ {A : Type 0} (number : A → ℕ) where
-  pub lowest-snoc : (xs : List A) (x : A) → lowestOf number (xs ++ (x ∷ [])) ≡ lower (lowestOf number xs) (number x)
+  pub lowest-snoc
+      : (xs : List A) (x : A) → lowestOf number (xs ++ (x ∷ [])) ≡ lower (lowestOf number xs) (number x)
   unfolding lowestOf
   lowest-snoc [] x = lower-none (number x) ∙ sym (lower-first (number x))
   lowest-snoc (y ∷ xs) x = rw (lowest-snoc xs x) (lower-assoc (number y) (lowestOf number xs) (number x))
 
-  pub lowest-exact : (P : A → Type 0) → ((x : A) → (number x ≡ 0) ↔ P x) → (xs : List A) → (lowestOf number xs ≡ 0) ↔ All P xs
+  pub lowest-exact
+      : (P : A → Type 0) → ((x : A) → (number x ≡ 0) ↔ P x) → (xs : List A)
+      → (lowestOf number xs ≡ 0) ↔ All P xs
   unfolding lowestOf
   lowest-exact P one [] = (λ _. tt, λ _. refl)
   lowest-exact P one (x ∷ xs) =
@@ -74,5 +78,7 @@ module _ {A : Type 0} (number : A → ℕ) (g : ℕ → A) (a : ℕ) where
   unfolding lowestOf listFrom
   lowest-start = refl
 
-  pub lowest-more : (j : ℕ) → lowestOf number (listFrom g a (j + 1)) ≡ lower (lowestOf number (listFrom g a j)) (number (g (a + j)))
+  pub lowest-more
+      : (j : ℕ) → lowestOf number (listFrom g a (j + 1)) ≡ lower (lowestOf number (listFrom g a j))
+      (number (g (a + j)))
   lowest-more j = rw (add-one, from-snoc g a j, lowest-snoc number)

@@ -2,7 +2,9 @@
 -- gives the bits of the root. Assumes nothing.
 use mathlib.Core.Path.{_≡_, refl, sym, ap, _∙_, subst}
 use Prim.Native.Nat.{ℕ, zero, suc, _+_, _-_, _*_, _/_, _%_, _^_, _≤_, _<_}
-use native.Mathlib.Nat.{le-trans, le-refl, le-of-eq, lt-of-lt-of-le, lt-of-le-of-lt, lt-of-not-le, not-le-of-lt, eq-or-lt-of-le, add-le-add, mul-le-mul, mul-le-mul-right, mul-lt-mul-of-pos-right, pow-succ', mul-assoc, mul-mul-mul-comm, mul-one, zero-mul}
+use native.Mathlib.Nat.{le-trans, le-refl, le-of-eq, lt-of-lt-of-le, lt-of-le-of-lt, lt-of-not-le, not-le-of-lt}
+use native.Mathlib.Nat.{eq-or-lt-of-le, add-le-add, mul-le-mul, mul-le-mul-right, mul-lt-mul-of-pos-right, pow-succ'}
+use native.Mathlib.Nat.{mul-assoc, mul-mul-mul-comm, mul-one, zero-mul}
 use native.Mathlib.Omega.{arith}
 use mathlib.Core.Logic.{_⊎_, inl, inr}
 use lib.Dec.{T, leb, lit≤, lit<, leb→le}
@@ -44,7 +46,8 @@ square a j = mul-mul-mul-comm a (2 ^ j) a (2 ^ j) ∙ ap (λ (z : ℕ). a * a * 
 mid-above : (j a : ℕ) → 8388608 ≤ a → a ≤ 16777216 → suc (2 * a) * 2 ^ j ≤ mid (suc (j * 8388608 + a))
 mid-above j a h k =
     let p = j * 8388608 + a in
-    add (2 ^ j) a (val (suc p - 1)) (val p) (gap p) (val (suc p)) (ap val (pred p)) (val-at j a h k) (gap-at j a h) (val-suc p)
+    add (2 ^ j) a (val (suc p - 1)) (val p) (gap p) (val (suc p)) (ap val (pred p)) (val-at j a h k) (gap-at j a h)
+    (val-suc p)
   where
     pred : (p : ℕ) → suc p - 1 ≡ p
     pred p = omega arith
@@ -53,7 +56,9 @@ mid-above j a h k =
     add x a u v g w e f h k = omega arith
 
 -- and the midpoint below s * 2 ^ j at most, for a = (s + 1) / 2
-mid-below : (j s a : ℕ) → a ≡ (s + 1) / 2 → 16777216 ≤ s → 8388608 ≤ a → a ≤ 16777216 → mid (j * 8388608 + a) ≤ s * 2 ^ j
+mid-below
+    : (j s a : ℕ) → a ≡ (s + 1) / 2 → 16777216 ≤ s → 8388608 ≤ a → a ≤ 16777216
+    → mid (j * 8388608 + a) ≤ s * 2 ^ j
 mid-below j s a e g h k = elim (eq-or-lt-of-le h) [ inl f ↦ first f | inr l ↦ inside l ]
   where
     p : ℕ
@@ -76,7 +81,8 @@ mid-below j s a e g h k = elim (eq-or-lt-of-le h) [ inl f ↦ first f | inr l �
     inside : 8388608 < a → mid p ≤ s * 2 ^ j
     inside l =
         let q : val (p - 1) ≡ (a - 1) * 2 ^ j = ap val (pred j a l) ∙ val-at j (a - 1) (low a l) (high a k) in
-        le-trans (le-of-eq (add (2 ^ j) a (val (p - 1)) (val p) q (val-at j a h k))) (mul-le-mul-right (2 ^ j) (small s a e))
+        le-trans (le-of-eq (add (2 ^ j) a (val (p - 1)) (val p) q (val-at j a h k)))
+        (mul-le-mul-right (2 ^ j) (small s a e))
       where
         pred : (j a : ℕ) → 8388608 < a → j * 8388608 + a - 1 ≡ j * 8388608 + (a - 1)
         pred j a l = omega arith
@@ -94,10 +100,15 @@ mid-below j s a e g h k = elim (eq-or-lt-of-le h) [ inl f ↦ first f | inr l �
         small s a e = omega arith
 
 -- ---- half the root of N, rounded
-pub found : (n N j s : ℕ) → n * 2 ^ 151 ≡ N * 2 ^ (j + j) → s * s ≤ N → N < (s + 1) * (s + 1) → 281474976710656 ≤ N → N < 1125899906842624 → Found n (j * 8388608 + (s + 1) / 2)
+pub found
+    : (n N j s : ℕ) → n * 2 ^ 151 ≡ N * 2 ^ (j + j) → s * s ≤ N → N < (s + 1) * (s + 1)
+    → 281474976710656 ≤ N → N < 1125899906842624 → Found n (j * 8388608 + (s + 1) / 2)
 found n N j s e lo hi least most = (
-  le-trans (mul-le-mul below below) (le-trans (le-of-eq (square s j)) (le-trans (mul-le-mul-right (2 ^ (j + j)) lo) (le-of-eq (sym e)))),
-  lt-of-le-of-lt (le-of-eq e) (lt-of-lt-of-le (mul-lt-mul-of-pos-right (lt-of-lt-of-le hi (mul-le-mul up up)) (pow-pos (j + j))) (le-trans (le-of-eq (sym (square (suc (2 * a)) j))) (mul-le-mul above above))),
+  le-trans (mul-le-mul below below) (le-trans (le-of-eq (square s j))
+      (le-trans (mul-le-mul-right (2 ^ (j + j)) lo) (le-of-eq (sym e)))),
+  lt-of-le-of-lt (le-of-eq e)
+      (lt-of-lt-of-le (mul-lt-mul-of-pos-right (lt-of-lt-of-le hi (mul-le-mul up up)) (pow-pos (j + j)))
+      (le-trans (le-of-eq (sym (square (suc (2 * a)) j))) (mul-le-mul above above))),
 )
   where
     a : ℕ
@@ -110,7 +121,9 @@ found n N j s e lo hi least most = (
         le-of-not f = omega arith
 
     s-high : s < 33554432
-    s-high = lt-of-not-le (λ (g : 33554432 ≤ s). not-le-of-lt (lt-of-le-of-lt (mul-le-mul g g) (lt-of-le-of-lt lo most)) (le-refl (33554432 * 33554432)))
+    s-high =
+        lt-of-not-le (λ (g : 33554432 ≤ s). not-le-of-lt (lt-of-le-of-lt (mul-le-mul g g) (lt-of-le-of-lt lo most))
+        (le-refl (33554432 * 33554432)))
 
     a-low : 8388608 ≤ a
     a-low = let h = s-low in omega arith
@@ -173,7 +186,9 @@ scale v m e c i h k =
 -- m and e as the code has them
 module _ (b m e : ℕ) (d : m ≡ digs (b / 8388608) (b % 8388608)) (x : e ≡ expo (b / 8388608)) where
   value : val b ≡ m * 2 ^ (e - 1)
-  value = fields-is (b / 8388608) (b % 8388608) ∙ ap (λ (z : ℕ). z * 2 ^ (expo (b / 8388608) - 1)) (sym d) ∙ ap (λ (z : ℕ). m * 2 ^ (z - 1)) (sym x)
+  value =
+      fields-is (b / 8388608) (b % 8388608) ∙ ap (λ (z : ℕ). z * 2 ^ (expo (b / 8388608) - 1)) (sym d) ∙ ap
+      (λ (z : ℕ). m * 2 ^ (z - 1)) (sym x)
 
   some : 0 < e
   some = subst (λ (z : ℕ). 0 < z) (sym x) (expo-pos (b / 8388608))
@@ -188,7 +203,11 @@ module _ (b m e : ℕ) (d : m ≡ digs (b / 8388608) (b % 8388608)) (x : e ≡ e
   start-even o = let p = some in at (m * 67108864) record { same = scale (val b) m e 26 ((e + 1) / 2 + 62 + ((e + 1) / 2 + 62)) value (omega arith) }
 
   pub start-odd : (e % 2 ≡ 0 → ⊥) → Scaled b (m * 33554432) ((expo (b / 8388608) + 1) / 2 + 62)
-  start-odd o = at (m * 33554432) record { same = scale (val b) m e 25 ((e + 1) / 2 + 62 + ((e + 1) / 2 + 62)) value (omega arith) }
+  start-odd o =
+      at (m * 33554432) record {
+        same = scale (val b) m e 25 ((e + 1) / 2 + 62 + ((e + 1) / 2 + 62)) value
+            (omega arith);
+      }
 
 -- a turn of the loop: N times 4, j less 1
 no-zero : (v n : ℕ) → v * 2 ^ 151 ≡ n * 1 → 0 < n → n < 281474976710656 → ⊥
@@ -196,7 +215,9 @@ no-zero zero n e h k = nothing n (sym (mul-one n) ∙ sym e ∙ zero-mul (2 ^ 15
   where
     nothing : (n : ℕ) → n ≡ 0 → 0 < n → ⊥
     nothing n e h = omega arith
-no-zero (suc v) n e h k = not-le-of-lt k (le-trans (le-trans (leb→le 281474976710656 (1 * 2 ^ 151) tt) (mul-le-mul-right (2 ^ 151) (one v))) (le-of-eq (e ∙ mul-one n)))
+no-zero (suc v) n e h k =
+    not-le-of-lt k (le-trans (le-trans (leb→le 281474976710656 (1 * 2 ^ 151) tt)
+    (mul-le-mul-right (2 ^ 151) (one v))) (le-of-eq (e ∙ mul-one n)))
   where
     one : (v : ℕ) → 1 ≤ suc v
     one v = omega arith
@@ -212,15 +233,21 @@ turn b n j h e = record { same = e .same ∙ ap (λ (z : ℕ). n * 2 ^ z) (two j
     two j h = omega arith
 
 pub n-pos : (b n j : ℕ) → 0 < b → Scaled b n j → 0 < n
-n-pos b zero j h e = absurd (not-le-of-lt (mul-lt-mul-of-pos-right (val-lt h) (pow-pos 151)) (le-of-eq (e .same ∙ zero-mul (2 ^ (j + j)))))
+n-pos b zero j h e =
+    absurd (not-le-of-lt (mul-lt-mul-of-pos-right (val-lt h) (pow-pos 151))
+    (le-of-eq (e .same ∙ zero-mul (2 ^ (j + j)))))
 n-pos b (suc n) j h e = omega arith
 
-pub result : (b n j s : ℕ) → b < 2139095040 → Scaled b n j → s * s ≤ n → n < (s + 1) * (s + 1) → 281474976710656 ≤ n → n < 1125899906842624 → j * 8388608 + (s + 1) / 2 ≡ rootBits (val b)
+pub result
+    : (b n j s : ℕ) → b < 2139095040 → Scaled b n j → s * s ≤ n → n < (s + 1) * (s + 1)
+    → 281474976710656 ≤ n → n < 1125899906842624 → j * 8388608 + (s + 1) / 2 ≡ rootBits (val b)
 result b n j s h e lo hi least most =
     let f = found (val b) n j s (e .same) lo hi least most in
     bits-unique (val b) (j * 8388608 + (s + 1) / 2) (val-small b h) (f .0) (f .1)
 
-pub begin : (b n e : ℕ) → e ≡ expo (b / 8388608) → Scaled b n ((expo (b / 8388608) + 1) / 2 + 62) → Scaled b n ((e + 1) / 2 + 62)
+pub begin
+    : (b n e : ℕ) → e ≡ expo (b / 8388608) → Scaled b n ((expo (b / 8388608) + 1) / 2 + 62)
+    → Scaled b n ((e + 1) / 2 + 62)
 begin b n e x h = subst (λ (z : ℕ). Scaled b n ((z + 1) / 2 + 62)) (sym x) h
 
 pub e-small : (b e : ℕ) → e ≡ expo (b / 8388608) → b < 2139095040 → e ≤ 254
@@ -231,4 +258,6 @@ unfolding rootBits
 zero-is b h = subst (λ (z : ℕ). 0 ≡ rootBits (val z)) (sym h) refl
 
 pub s-small : (n s : ℕ) → s * s ≤ n → n < 1125899906842624 → s < 33554432
-s-small n s lo most = lt-of-not-le (λ (g : 33554432 ≤ s). not-le-of-lt (lt-of-le-of-lt (mul-le-mul g g) (lt-of-le-of-lt lo most)) (le-refl (33554432 * 33554432)))
+s-small n s lo most =
+    lt-of-not-le (λ (g : 33554432 ≤ s). not-le-of-lt (lt-of-le-of-lt (mul-le-mul g g) (lt-of-le-of-lt lo most))
+    (le-refl (33554432 * 33554432)))

@@ -2,7 +2,8 @@
 -- nothing.
 use mathlib.Core.Path.{_≡_, refl, sym, ap, _∙_, subst}
 use Prim.Native.Nat.{ℕ, zero, suc, _+_, _-_, _*_, _/_, _%_, _^_, _≤_, _<_}
-use native.Mathlib.Nat.{zero-mul, zero-div, pow-succ', le-trans, le-of-eq, lt-of-lt-of-le, lt-of-not-le, not-le-of-lt, lt-irrefl, lt-trans, le-antisymm, add-comm, mul-one, mul-div-cancel, mod-eq-of-lt}
+use native.Mathlib.Nat.{zero-mul, zero-div, pow-succ', le-trans, le-of-eq, lt-of-lt-of-le, lt-of-not-le, not-le-of-lt}
+use native.Mathlib.Nat.{lt-irrefl, lt-trans, le-antisymm, add-comm, mul-one, mul-div-cancel, mod-eq-of-lt}
 use native.Mathlib.Omega.{arith}
 use mathlib.Core.Bool.{Bool, true, false, not, cond}
 use lib.IntN.{ℤ, pos, negsuc}
@@ -13,7 +14,8 @@ use lib.Ieee.Bits.{is-false, is-true, cond-no, ofBits-toBits, ofBits-fits, toBit
 use lib.Ieee.Exact.{HasValue, odd-sign}
 use lib.Ieee.Fits.{down-pos}
 use Rattle.root.specs.Root.{units, plain, IsRoot, fields, val, mid, rootBits, rootOf}
-use Rattle.root.proofs.Patterns.{val-mono, val-lt, lt-of-val, Found, root-found, root-small, root-mono, nearer-above, nearer-below, val-small}
+use Rattle.root.proofs.Patterns.{val-mono, val-lt, lt-of-val, Found, root-found, root-small, root-mono}
+use Rattle.root.proofs.Patterns.{nearer-above, nearer-below, val-small}
 
 -- ---- patterns and values
 units-of : (x : Float) (a : ℕ) → HasValue x false a (2 ^ 149) → units x ≡ a
@@ -26,24 +28,31 @@ differ x h e = omega arith
 
 fields-value : (e t : ℕ) → e < 255 → HasValue (ofFields binary32 false e t) false (fields e t) (2 ^ 149)
 unfolding ofFields
-fields-value zero t h = subst (λ (a : ℕ). HasValue (odd 24 false t 0 149) false a (2 ^ 149)) (mul-one t) (odd-sign 24 false t 0 149)
+fields-value zero t h =
+    subst (λ (a : ℕ). HasValue (odd 24 false t 0 149) false a (2 ^ 149)) (mul-one t) (odd-sign 24 false t 0 149)
 fields-value (suc e) t h =
     subst (λ (x : Float). HasValue x false ((8388608 + t) * 2 ^ e) (2 ^ 149))
-    (sym (cond-no (eqb (suc e) 255) (cond (eqb t 0) (inf false) nan) (odd 24 false (8388608 + t) e 149) (not-T (eqb (suc e) 255) (λ (u : T (eqb (suc e) 255)). differ e h (eqb→eq (suc e) 255 u)))))
+    (sym (cond-no (eqb (suc e) 255) (cond (eqb t 0) (inf false) nan) (odd 24 false (8388608 + t) e 149)
+    (not-T (eqb (suc e) 255) (λ (u : T (eqb (suc e) 255)). differ e h (eqb→eq (suc e) 255 u)))))
     (odd-sign 24 false (8388608 + t) e 149)
 
-ofBits-is : (p : ℕ) → ofBits binary32 p ≡ ofFields binary32 (leb 2147483648 p) (p % 2147483648 / 8388608) (p % 8388608)
+ofBits-is
+    : (p : ℕ) → ofBits binary32 p ≡ ofFields binary32 (leb 2147483648 p) (p % 2147483648 / 8388608) (p % 8388608)
 unfolding ofBits
 ofBits-is p = refl
 
 unsigned : (p : ℕ) → p < 2147483648 → ofBits binary32 p ≡ ofFields binary32 false (p / 8388608) (p % 8388608)
 unsigned p h =
     ofBits-is p
-    ∙ ap (λ (s : Bool). ofFields binary32 s (p % 2147483648 / 8388608) (p % 8388608)) (is-false (leb 2147483648 p) (not-T (leb 2147483648 p) (λ (u : T (leb 2147483648 p)). not-le-of-lt h (leb→le 2147483648 p u))))
+    ∙ ap (λ (s : Bool). ofFields binary32 s (p % 2147483648 / 8388608) (p % 8388608))
+    (is-false (leb 2147483648 p)
+    (not-T (leb 2147483648 p) (λ (u : T (leb 2147483648 p)). not-le-of-lt h (leb→le 2147483648 p u))))
     ∙ ap (λ (x : ℕ). ofFields binary32 false (x / 8388608) (p % 8388608)) (mod-eq-of-lt h)
 
 pub bits-value : (p : ℕ) → p < 2139095040 → HasValue (ofBits binary32 p) false (val p) (2 ^ 149)
-bits-value p h = subst (λ (x : Float). HasValue x false (val p) (2 ^ 149)) (sym (unsigned p (omega arith))) (fields-value (p / 8388608) (p % 8388608) (omega arith))
+bits-value p h =
+    subst (λ (x : Float). HasValue x false (val p) (2 ^ 149)) (sym (unsigned p (omega arith)))
+    (fields-value (p / 8388608) (p % 8388608) (omega arith))
 
 pub bits-units : (p : ℕ) → p < 2139095040 → units (ofBits binary32 p) ≡ val p
 bits-units p h = units-of (ofBits binary32 p) (val p) (bits-value p h)
@@ -78,7 +87,8 @@ kind-cond false c x h s = h
 kind-signed : (e t : ℕ) → kind (ofFields binary32 true e t) ≡ 0
 unfolding ofFields
 kind-signed zero t = kind-odd 24 t 0 149
-kind-signed (suc e) t = kind-cond (eqb (suc e) 255) (eqb t 0) (odd 24 true (8388608 + t) e 149) (kind-odd 24 (8388608 + t) e 149) true
+kind-signed (suc e) t =
+    kind-cond (eqb (suc e) 255) (eqb t 0) (odd 24 true (8388608 + t) e 149) (kind-odd 24 (8388608 + t) e 149) true
 
 kind-ones : (t : ℕ) → kind (ofFields binary32 false 255 t) ≡ 0
 unfolding ofFields
@@ -98,10 +108,15 @@ kind-bits p h k = go (ltb p 2147483648) (ltb→lt p 2147483648) (nltb→le p 214
     ones p a b = omega arith
 
     go : (b : Bool) → (T b → p < 2147483648) → (T (not b) → 2147483648 ≤ p) → p < 2139095040
-    go true l g = lt-of-not-le (λ (u : 2139095040 ≤ p). one (kind (ofBits binary32 p)) k (ap kind (unsigned p (l tt) ∙ ap (λ (x : ℕ). ofFields binary32 false x (p % 8388608)) (ones p (l tt) u)) ∙ kind-ones (p % 8388608)))
+    go true l g =
+        lt-of-not-le (λ (u : 2139095040 ≤ p). one (kind (ofBits binary32 p)) k
+        (ap kind (unsigned p (l tt) ∙ ap (λ (x : ℕ). ofFields binary32 false x (p % 8388608)) (ones p (l tt) u))
+        ∙ kind-ones (p % 8388608)))
     go false l g =
         absurd (one (kind (ofBits binary32 p)) k
-        (ap kind (ofBits-is p ∙ ap (λ (s : Bool). ofFields binary32 s (p % 2147483648 / 8388608) (p % 8388608)) (is-true (leb 2147483648 p) (le→leb 2147483648 p (g tt)))) ∙ kind-signed (p % 2147483648 / 8388608) (p % 8388608)))
+        (ap kind (ofBits-is p ∙ ap (λ (s : Bool). ofFields binary32 s (p % 2147483648 / 8388608) (p % 8388608))
+        (is-true (leb 2147483648 p) (le→leb 2147483648 p (g tt)))) ∙ kind-signed (p % 2147483648 / 8388608)
+        (p % 8388608)))
 
 plain-fits : (y : Float) → T (plain y) → T (fits binary32 y)
 plain-fits nan h = absurd h
@@ -119,13 +134,15 @@ pub plain-bits : (y : Float) → T (plain y) → ofBits binary32 (toBits binary3
 plain-bits y h = ofBits-toBits binary32 y (plain-fits y h)
 
 pub plain-small : (y : Float) → T (plain y) → toBits binary32 y < 2139095040
-plain-small y h = kind-bits (toBits binary32 y) (toBits-lt binary32 y (plain-fits y h)) (ap kind (plain-bits y h) ∙ plain-kind y h)
+plain-small y h =
+    kind-bits (toBits binary32 y) (toBits-lt binary32 y (plain-fits y h)) (ap kind (plain-bits y h) ∙ plain-kind y h)
 
 pub plain-units : (y : Float) → T (plain y) → units y ≡ val (toBits binary32 y)
 plain-units y h = ap units (sym (plain-bits y h)) ∙ bits-units (toBits binary32 y) (plain-small y h)
 
 -- ---- equal units, equal values
-same-bits : (x y : Float) → T (plain x) → T (plain y) → units x ≡ units y → toBits binary32 x ≡ toBits binary32 y
+same-bits
+    : (x y : Float) → T (plain x) → T (plain y) → units x ≡ units y → toBits binary32 x ≡ toBits binary32 y
 unfolding toBits
 same-bits nan y p q h = absurd p
 same-bits (inf s) y p q h = absurd p
@@ -150,31 +167,40 @@ zero-root = refl
 pub zero-exponent : (s : Bool) (e : ℤ) → T (fits binary32 (fin s zero e)) → e ≡ pos 0
 unfolding fits
 zero-exponent s (pos zero) h = refl
-zero-exponent s (pos (suc k)) h = absurd (more (2 ^ k) (pow-pos k) (sym (ap (λ (z : ℕ). z * 1) (pow-succ' 2 k)) ∙ eqb→eq (2 ^ suc k * 1) 1 h))
+zero-exponent s (pos (suc k)) h =
+    absurd (more (2 ^ k) (pow-pos k) (sym (ap (λ (z : ℕ). z * 1) (pow-succ' 2 k)) ∙ eqb→eq (2 ^ suc k * 1) 1 h))
   where
     more : (x : ℕ) → 0 < x → 2 * x * 1 ≡ 1 → ⊥
     more x h e = omega arith
-zero-exponent s (negsuc k) h = absurd (more (2 ^ k) (pow-pos k) (sym (ap (λ (z : ℕ). 1 * z) (pow-succ' 2 k)) ∙ eqb→eq (1 * 2 ^ suc k) 1 h))
+zero-exponent s (negsuc k) h =
+    absurd (more (2 ^ k) (pow-pos k) (sym (ap (λ (z : ℕ). 1 * z) (pow-succ' 2 k)) ∙ eqb→eq (1 * 2 ^ suc k) 1 h))
   where
     more : (x : ℕ) → 0 < x → 1 * (2 * x) ≡ 1 → ⊥
     more x h e = omega arith
 
 no-units : (e : ℤ) → 0 * up e * 2 ^ 149 / down e ≡ 0
-no-units e = ap (λ (n : ℕ). n * 2 ^ 149 / down e) (zero-mul (up e)) ∙ ap (λ (n : ℕ). n / down e) (zero-mul (2 ^ 149)) ∙ zero-div (down e)
+no-units e =
+    ap (λ (n : ℕ). n * 2 ^ 149 / down e) (zero-mul (up e)) ∙ ap (λ (n : ℕ). n / down e) (zero-mul (2 ^ 149))
+    ∙ zero-div (down e)
 
 pub root-opened : (x : Float) → T (plain x) → rootOf x ≡ ofBits binary32 (rootBits (units x))
 unfolding rootOf
 root-opened nan h = absurd h
 root-opened (inf s) h = absurd h
 root-opened (fin true m e) h = absurd h
-root-opened (fin false zero e) h = ap (λ (z : ℤ). fin false 0 z) (zero-exponent false e h) ∙ zero-root ∙ ap (λ (n : ℕ). ofBits binary32 (rootBits n)) (sym (no-units e))
+root-opened (fin false zero e) h =
+    ap (λ (z : ℤ). fin false 0 z) (zero-exponent false e h) ∙ zero-root ∙ ap
+    (λ (n : ℕ). ofBits binary32 (rootBits n)) (sym (no-units e))
 root-opened (fin false (suc m) e) h = refl
 
 pub plain-under : (x : Float) → T (plain x) → units x < 2 ^ 277
-plain-under x h = subst (λ (n : ℕ). n < 2 ^ 277) (sym (plain-units x h)) (val-small (toBits binary32 x) (plain-small x h))
+plain-under x h =
+    subst (λ (n : ℕ). n < 2 ^ 277) (sym (plain-units x h)) (val-small (toBits binary32 x) (plain-small x h))
 
 pub root-plain : (x : Float) → T (plain x) → T (plain (rootOf x))
-root-plain x h = subst (λ (r : Float). T (plain r)) (sym (root-opened x h)) (bits-plain (rootBits (units x)) (root-small (units x) (plain-under x h)))
+root-plain x h =
+    subst (λ (r : Float). T (plain r)) (sym (root-opened x h))
+    (bits-plain (rootBits (units x)) (root-small (units x) (plain-under x h)))
 
 pub root-units : (x : Float) → T (plain x) → units (rootOf x) ≡ val (rootBits (units x))
 root-units x h = ap units (root-opened x h) ∙ bits-units (rootBits (units x)) (root-small (units x) (plain-under x h))
@@ -194,7 +220,8 @@ root-is x h =
           rw (e, d) (nearer-above n p (toBits binary32 y) (f .1) (lt-of-val (rw (e, d) at l)));
       over = λ y q l.
           let d = plain-units y q in
-          rw (e, d) (rw (plain-units x h) (nearer-below (toBits binary32 x) (rootBits (val (toBits binary32 x))) (toBits binary32 y) (rw (plain-units x h) at (f .0)) (lt-of-val (rw (plain-units x h) at (rw (e, d) at l)))));
+          rw (e, d) (rw (plain-units x h) (nearer-below (toBits binary32 x) (rootBits (val (toBits binary32 x)))
+          (toBits binary32 y) (rw (plain-units x h) at (f .0)) (lt-of-val (rw (plain-units x h) at (rw (e, d) at l)))));
     }
 
 -- and nothing else is the root
@@ -205,7 +232,10 @@ root-only x r s a b = same r s (a .held) (b .held) (le-antisymm (no r s a b) (no
     le-of-not m n f = omega arith
 
     no : (r s : Float) → IsRoot x r → IsRoot x s → units r ≤ units s
-    no r s a b = le-of-not (units r) (units s) (λ (l : units s < units r). lt-irrefl (units x * 2 ^ 151) (lt-trans (b .under r (a .held) l) (subst (λ (z : ℕ). z * z < units x * 2 ^ 151) (add-comm (units r) (units s)) (a .over s (b .held) l))))
+    no r s a b =
+        le-of-not (units r) (units s) (λ (l : units s < units r). lt-irrefl (units x * 2 ^ 151)
+        (lt-trans (b .under r (a .held) l) (subst (λ (z : ℕ). z * z < units x * 2 ^ 151)
+        (add-comm (units r) (units s)) (a .over s (b .held) l))))
 
 pub root-unique : (x r : Float) → IsRoot x r → r ≡ rootOf x
 root-unique x r a = root-only x r (rootOf x) a (root-is x (a .asked))

@@ -18,10 +18,13 @@ is-nan (fin s m d) e = cc
 
 -- a pattern above an infinity's is `nan`, and one that is not above is no NaN's
 pub above-nan : (w : ℕ) → 2139095040 < w % 2147483648 → ofBits binary32 w ≡ nan
-above-nan w h = is-nan (ofBits binary32 w) (sym (nanBits-is binary32 w) ∙ nanBits-above binary32 w ∙ lt-ltb 2139095040 (w % 2147483648) h)
+above-nan w h =
+    is-nan (ofBits binary32 w) (sym (nanBits-is binary32 w) ∙ nanBits-above binary32 w ∙ lt-ltb 2139095040
+    (w % 2147483648) h)
 
 pub below-no-nan : (w : ℕ) → w % 2147483648 ≤ 2139095040 → T (not (nanBits binary32 w))
-below-no-nan w h = subst (λ (b : Bool). T (not b)) (sym (nanBits-above binary32 w ∙ le-ltb 2139095040 (w % 2147483648) h)) tt
+below-no-nan w h =
+    subst (λ (b : Bool). T (not b)) (sym (nanBits-above binary32 w ∙ le-ltb 2139095040 (w % 2147483648) h)) tt
 
 pub zero-by-zero : div binary32 (ofBits binary32 0) (ofBits binary32 0) ≡ nan
 unfolding div ofBits

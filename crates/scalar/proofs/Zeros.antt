@@ -16,8 +16,10 @@ use Rattle.scalar.specs.Signs.{absOf, signumOf}
 
 zero-not-some : (m : ℕ) (e : ℤ) (t : Bool) → eqb (suc m * up e * 1) (0 * 1 * down e) && t ≡ true → ⊥
 zero-not-some m e t h =
-    none (suc m * up e * 1) (0 * 1 * down e) (mul-pos (mul-pos (zero-lt-suc m) (up-pos e)) (lit< tt)) (zero-mul (down e))
-    (eqb→eq (suc m * up e * 1) (0 * 1 * down e) (and-l (eqb (suc m * up e * 1) (0 * 1 * down e)) t (subst T (sym h) tt)))
+    none (suc m * up e * 1) (0 * 1 * down e) (mul-pos (mul-pos (zero-lt-suc m) (up-pos e)) (lit< tt))
+    (zero-mul (down e))
+    (eqb→eq (suc m * up e * 1) (0 * 1 * down e) (and-l (eqb (suc m * up e * 1) (0 * 1 * down e)) t
+    (subst T (sym h) tt)))
   where
     none : (a b : ℕ) → 0 < a → b ≡ 0 → a ≡ b → ⊥
     none a b h k e = omega arith
@@ -34,30 +36,35 @@ abs-below (fin false m e) h = absurd (no (m * up e * 1) (0 * 1 * down e) (zero-m
     no : (a b : ℕ) → b ≡ 0 → ltb a b ≡ true → ⊥
     no a b e h = omega (arith, ltb-true a b h)
 
-pub abs-zero : (x : Float) → T (fits binary32 x) → eq x (ofBits binary32 0) ≡ true → ofBits binary32 0 ≡ absOf x
+pub abs-zero
+    : (x : Float) → T (fits binary32 x) → eq x (ofBits binary32 0) ≡ true → ofBits binary32 0 ≡ absOf x
 unfolding eq ofBits absOf
 abs-zero nan f h = absurd (false≢true h)
 abs-zero (inf s) f h = absurd (false≢true h)
 abs-zero (fin s zero e) f h = ap (λ (z : ℤ). fin false 0 z) (sym (zero-exponent s e f))
 abs-zero (fin s (suc m) e) f h = absurd (zero-not-some m e _ h)
 
-pub abs-above : (x : Float) → lt x (ofBits binary32 0) ≡ false → eq x (ofBits binary32 0) ≡ false → x ≡ absOf x
+pub abs-above
+    : (x : Float) → lt x (ofBits binary32 0) ≡ false → eq x (ofBits binary32 0) ≡ false → x ≡ absOf x
 unfolding lt eq ofBits absOf
 abs-above nan h k = refl
 abs-above (inf true) h k = absurd (true≢false h)
 abs-above (inf false) h k = refl
 abs-above (fin false m e) h k = refl
-abs-above (fin true zero e) h k = absurd (level (0 * up e * 1) (0 * 1 * down e) (ap (λ (z : ℕ). z * 1) (zero-mul (up e))) (zero-mul (down e)) k)
+abs-above (fin true zero e) h k =
+    absurd (level (0 * up e * 1) (0 * 1 * down e) (ap (λ (z : ℕ). z * 1) (zero-mul (up e))) (zero-mul (down e)) k)
   where
     level : (a b : ℕ) → a ≡ 0 * 1 → b ≡ 0 → eqb a b && eqb a 0 ≡ false → ⊥
     level a b p q h = true≢false (sym (rw (p, q) refl) ∙ h)
-abs-above (fin true (suc m) e) h k = absurd (some (suc m * up e * 1) (0 * 1 * down e) (mul-pos (mul-pos (zero-lt-suc m) (up-pos e)) (lit< tt)) h)
+abs-above (fin true (suc m) e) h k =
+    absurd (some (suc m * up e * 1) (0 * 1 * down e) (mul-pos (mul-pos (zero-lt-suc m) (up-pos e)) (lit< tt)) h)
   where
     some : (a b : ℕ) → 0 < a → ltb 0 (a + b) ≡ false → ⊥
     some a b h e = omega (arith, ltb-false 0 (a + b) e)
 
 -- ---- sign: a float's word is below 2 ^ 31 where its sign is clear
-pub sign-clear : (x : Float) → eq x x ≡ true → toBits binary32 x < 2147483648 → ofBits binary32 0x3f80_0000 ≡ signumOf x
+pub sign-clear
+    : (x : Float) → eq x x ≡ true → toBits binary32 x < 2147483648 → ofBits binary32 0x3f80_0000 ≡ signumOf x
 unfolding eq toBits ofBits signumOf
 sign-clear nan h k = absurd (false≢true h)
 sign-clear (inf true) h k = absurd (not-le-of-lt k (lit≤ tt))
@@ -68,7 +75,9 @@ sign-clear (fin true m e) h k = absurd (above _ _ k)
     above a b h = omega arith
 sign-clear (fin false m e) h k = refl
 
-pub sign-set : (x : Float) → T (fits binary32 x) → eq x x ≡ true → 2147483648 ≤ toBits binary32 x → neg (ofBits binary32 0x3f80_0000) ≡ signumOf x
+pub sign-set
+    : (x : Float) → T (fits binary32 x) → eq x x ≡ true → 2147483648 ≤ toBits binary32 x
+    → neg (ofBits binary32 0x3f80_0000) ≡ signumOf x
 unfolding neg eq toBits ofBits signumOf
 sign-set nan f h k = absurd (false≢true h)
 sign-set (inf true) f h k = refl

@@ -89,7 +89,8 @@ module _ (step : Vec3 → QuadLight → Lit) where
   Few = (out : Vec3) (l : QuadLight) → step out l .count ≤ 96
 
   lights-count
-      : Few → (ls : List QuadLight) (out : Vec3) (made : ℕ) → lightsBy step ls out made .count ≤ made + 96 * length ls
+      : Few → (ls : List QuadLight) (out : Vec3) (made : ℕ)
+      → lightsBy step ls out made .count ≤ made + 96 * length ls
   unfolding lightsBy
   lights-count few [] out made = omega arith
   lights-count few (l ∷ ls) out made =

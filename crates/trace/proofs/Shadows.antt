@@ -23,7 +23,8 @@ use Rattle.trace.specs.declared.Passed.{Passed}
 use Rattle.trace.specs.declared.Passed.the-variants.{Dark, Going}
 use Rattle.trace.specs.declared.Shadow.{Shadow}
 use Rattle.trace.specs.Trace.{Field, pointAt}
-use Rattle.trace.specs.Shadow.{shadowMost, darkerOf, passedOf, seenOf, pass, passAt, coneMarch, coneFrom, shadowOf}
+use Rattle.trace.specs.Shadow.{shadowMost, darkerOf, passedOf, seenOf, pass, passAt, coneMarch, coneFrom}
+use Rattle.trace.specs.Shadow.{shadowOf}
 use Rattle.trace.specs.Seen.{conePoints, shadowPoints}
 use Rattle.trace.proofs.Marches.{never}
 
@@ -117,7 +118,8 @@ module _ (field : Field) (ro rd : Vec3) (tmax k : Float) where
   cone-each
       : (P : ℕ → Cone → ℕ → Shadow → List Vec3 → Type 0)
       → ((c : Cone) (made : ℕ) → P 0 c made (seenOf (c .res) made) [])
-      → ((left : ℕ) (c : Cone) (made : ℕ) → lt (c .t) tmax ≡ false → P (suc left) c made (seenOf (c .res) made) [])
+      → ((left : ℕ) (c : Cone) (made : ℕ) → lt (c .t) tmax ≡ false → P (suc left) c made
+      (seenOf (c .res) made) [])
       → ((left : ℕ) (c : Cone) (made : ℕ)
       → lt (c .t) tmax ≡ true
       → at c ≡ Dark

@@ -12,10 +12,13 @@ use Rattle.wire.specs.Sent.{askBefore, Sent}
 use Rattle.viewer.specs.Calls.{Ask, askReply}
 
 -- what is sent is the reply, which is what it should be
-pub sent-as : {r s : Reply} {out : List ℕ} {n : ℕ} {out′ : List ℕ} → r ≡ s → Sent r out n out′ → Sent s out n out′
+pub sent-as
+    : {r s : Reply} {out : List ℕ} {n : ℕ} {out′ : List ℕ} → r ≡ s → Sent r out n out′
+    → Sent s out n out′
 sent-as {out = out} {n = n} {out′ = out′} e h = subst (λ (x : Reply). Sent x out n out′) e h
 
-pub ask-sent : (call : Ask) (need : ℕ) (plan nodes order : List ℕ) (tree : ℕ) (args out w : List ℕ) (f : List Float) (before : ℕ) (r : Reply) (n : ℕ) (out′ : List ℕ)
+pub ask-sent : (call : Ask) (need : ℕ) (plan nodes order : List ℕ) (tree : ℕ) (args out w : List ℕ)
+    (f : List Float) (before : ℕ) (r : Reply) (n : ℕ) (out′ : List ℕ)
     → (w ≡ askTable need plan nodes order tree args) × (f ≡ seen w)
     → before ≡ askBefore need (length plan) (length nodes) (length order) tree (length args) (length out)
     → r ≡ call before tree w f

@@ -16,7 +16,9 @@ part-length : {A : Type 0} (l : List A) (k n : ℕ) → k + n ≤ length l → l
 part-length l k n h = length-take-le n (drop k l) (omega (arith, length-drop k l))
 
 -- what is left of a table of which a part was lent and loaded
-pub part-put : (t w ys : List ℕ) (from to : ℕ) → from ≤ to → to ≤ length w → ys ≡ wordsOf t (length (take (to - from) (drop from w)))
+pub part-put
+    : (t w ys : List ℕ) (from to : ℕ) → from ≤ to → to ≤ length w
+    → ys ≡ wordsOf t (length (take (to - from) (drop from w)))
     → take from w ++ (ys ++ drop (to - from) (drop from w)) ≡ loadedPart t w from to
 unfolding loadedPart
 part-put t w ys from to h g e =
@@ -25,12 +27,15 @@ part-put t w ys from to h g e =
     (ap (λ (v : List ℕ). take from w ++ (v ++ drop (to - from) (drop from w))) (e ∙ ap (wordsOf t) l))
 
 -- the next part: so much is loaded, and then what `t` has
-filled : (pre rest t w : List ℕ) (from to : ℕ) → w ≡ pre ++ rest → length pre ≡ from → from ≤ to → to ≤ length w
+filled
+    : (pre rest t w : List ℕ) (from to : ℕ) → w ≡ pre ++ rest → length pre ≡ from → from ≤ to
+    → to ≤ length w
     → loadedPart t w from to ≡ (pre ++ wordsOf t (to - from)) ++ drop (to - from) rest
 unfolding loadedPart
 filled pre rest t w from to e l h g =
     rw (le-leb to (length w) g, le-leb from to h)
-    (rw (e, take-at pre rest from l, drop-at pre rest from l) (sym (append-assoc pre (wordsOf t (to - from)) (drop (to - from) rest))))
+    (rw (e, take-at pre rest from l, drop-at pre rest from l)
+    (sym (append-assoc pre (wordsOf t (to - from)) (drop (to - from) rest))))
 
 length-words : (t : List ℕ) (n : ℕ) → length (wordsOf t n) ≡ n
 length-words t n = length-from (wordAt t) 0 n
@@ -68,13 +73,17 @@ table-loaded plan args nodes order none w w1 w2 w3 w4 w5 l z e1 e2 e3 e4 e5 =
     let l3 : length w3 ≡ 27296 = ap length s3 ∙ omega (arith, length-append n r3) in
     let s4 : w4 ≡ o ++ r4 = e4 ∙ filled n r3 order w3 27031 27287 s3 ln (omega arith) (omega arith) in
     let l4 : length w4 ≡ 27296 = ap length s4 ∙ omega (arith, length-append o r4) in
-    let s5 : w5 ≡ (o ++ wordsOf [] 9) ++ drop 9 r4 = e5 ∙ ap (λ (x : List ℕ). loadedPart x w4 27287 27296) z ∙ filled o r4 [] w4 27287 27296 s4 lo (omega arith) (omega arith) in
+    let s5 : w5 ≡ (o ++ wordsOf [] 9) ++ drop 9 r4 = e5 ∙ ap (λ (x : List ℕ). loadedPart x w4 27287 27296) z
+    ∙ filled o r4 [] w4 27287 27296 s4 lo (omega arith) (omega arith) in
     let rest : drop 9 r4 ≡ [] = drop-of-length-le r4 {i = 9} (omega arith) in
     s5 ∙ ap (λ (z : List ℕ). (o ++ wordsOf [] 9) ++ z) rest ∙ append-nil (o ++ wordsOf [] 9)
 
-pub floats-long : (w : List ℕ) (f : List Float) (n : ℕ) → f ≡ floatsOf w n → n ≡ 27296 → f ≡ floatsOf w 27296
+pub floats-long
+    : (w : List ℕ) (f : List Float) (n : ℕ) → f ≡ floatsOf w n → n ≡ 27296 → f ≡ floatsOf w 27296
 floats-long w f n e l = e ∙ ap (floatsOf w) l
 
 -- a table of what stands for four tables is the table of those
-pub table-by : (p a n o p′ a′ n′ o′ w : List ℕ) → p ≡ p′ → a ≡ a′ → n ≡ n′ → o ≡ o′ → w ≡ tableOf p a n o → w ≡ tableOf p′ a′ n′ o′
+pub table-by
+    : (p a n o p′ a′ n′ o′ w : List ℕ) → p ≡ p′ → a ≡ a′ → n ≡ n′ → o ≡ o′
+    → w ≡ tableOf p a n o → w ≡ tableOf p′ a′ n′ o′
 table-by p a n o p′ a′ n′ o′ w ep ea en eo e = rw (← ep, ← ea, ← en, ← eo) e

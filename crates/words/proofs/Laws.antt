@@ -65,7 +65,8 @@ st3 b p w = set (st2 b p w) (p + 2) (w / 65536 % 256)
 
 off : (b : List ℕ) (p w k : ℕ) → (k < p) ⊎ (p + 4 ≤ k) → getD (put4 b p w) k 0 ≡ getD b k 0
 off b p w k h =
-    let n : (d : ℕ) → d < 4 → k ≡ p + d → ⊥ = λ d q e. ⊎-elim (λ a. omega arith) (λ a. omega arith) h in
+    let n : (d : ℕ) → d < 4 → k ≡ p + d → ⊥ = λ d q e. ⊎-elim (λ a. omega arith)
+    (λ a. omega arith) h in
     let n0 : k ≡ p → ⊥ = λ e. ⊎-elim (λ a. omega arith) (λ a. omega arith) h in
     getD-set-other (st3 b p w) (p + 3) k (w / 16777216) 0 (n 3 (omega arith))
     ∙ getD-set-other (st2 b p w) (p + 2) k (w / 65536 % 256) 0 (n 2 (omega arith))
@@ -111,7 +112,12 @@ word-other b i j w n =
     (⊎-elim
     (λ q.
     word-in (put4 b (4 * i) w) j (rw (length-put4 b (4 * i) w) q)
-    ∙ rw (off b (4 * i) w (4 * j) (rw add-zero at (apart 0 (omega arith))), off b (4 * i) w (4 * j + 1) (apart 1 (omega arith)), off b (4 * i) w (4 * j + 2) (apart 2 (omega arith)), off b (4 * i) w (4 * j + 3) (apart 3 (omega arith)))
+    ∙ rw (
+      off b (4 * i) w (4 * j) (rw add-zero at (apart 0 (omega arith))),
+      off b (4 * i) w (4 * j + 1) (apart 1 (omega arith)),
+      off b (4 * i) w (4 * j + 2) (apart 2 (omega arith)),
+      off b (4 * i) w (4 * j + 3) (apart 3 (omega arith)),
+    )
     (sym (word-in b j q)))
     (λ q. word-out (put4 b (4 * i) w) j (rw (length-put4 b (4 * i) w) q) ∙ sym (word-out b j q))
     (has b j)))
@@ -119,7 +125,9 @@ word-other b i j w n =
     (has b i)
   where
     apart : (d : ℕ) → d < 4 → (4 * j + d < 4 * i) ⊎ (4 * i + 4 ≤ 4 * j + d)
-    apart d q = ⊎-elim (λ a. inl (omega arith)) (λ a. ⊎-elim (λ e. inr (omega arith)) (λ e. absurd (n (omega arith))) (less-or i j)) (less-or j i)
+    apart d q =
+        ⊎-elim (λ a. inl (omega arith)) (λ a. ⊎-elim (λ e. inr (omega arith)) (λ e. absurd (n (omega arith)))
+        (less-or i j)) (less-or j i)
 
 -- ---- a word put back where it stood changes nothing
 abbrev pub Bytes : List ℕ → Type 0
@@ -162,13 +170,16 @@ put4-same b p h =
 
 pub put-same : (b : List ℕ) (i : ℕ) → Bytes b → putWord b i (wordAt b i) ≡ b
 put-same b i h =
-    ⊎-elim (λ q. rw (put-in b i (wordAt b i) q, word-in b i q) (put4-same b (4 * i) h)) (λ q. put-out b i (wordAt b i) q) (has b i)
+    ⊎-elim (λ q. rw (put-in b i (wordAt b i) q, word-in b i q) (put4-same b (4 * i) h))
+    (λ q. put-out b i (wordAt b i) q) (has b i)
 
 -- ---- the laws of the first words
 puts-same : (b : List ℕ) (i n : ℕ) → Bytes b → putWords b i (listFrom (wordAt b) i n) ≡ b
 unfolding putWords listFrom
 puts-same b i zero h = refl
-puts-same b i (suc n) h = ap (λ (x : List ℕ). putWords x (suc i) (listFrom (wordAt b) (suc i) n)) (put-same b i h) ∙ puts-same b (suc i) n h
+puts-same b i (suc n) h =
+    ap (λ (x : List ℕ). putWords x (suc i) (listFrom (wordAt b) (suc i) n)) (put-same b i h) ∙ puts-same b
+    (suc i) n h
 
 -- loading and storing gives the same bytes
 pub load-store : (b : List ℕ) (n : ℕ) → Bytes b → withWords b (wordsOf b n) ≡ b
@@ -178,14 +189,21 @@ load-store b n h = puts-same b 0 n h
 puts-before : (b : List ℕ) (i : ℕ) (ws : List ℕ) (j : ℕ) → j < i → wordAt (putWords b i ws) j ≡ wordAt b j
 unfolding putWords
 puts-before b i [] j h = refl
-puts-before b i (w ∷ ws) j h = puts-before (putWord b i w) (suc i) ws j (omega arith) ∙ word-other b i j w (λ e. omega arith)
+puts-before b i (w ∷ ws) j h =
+    puts-before (putWord b i w) (suc i) ws j (omega arith) ∙ word-other b i j w (λ e. omega arith)
 
-puts-back : (b : List ℕ) (i : ℕ) (ws : List ℕ) → i + length ws ≤ length b / 4 → listFrom (wordAt (putWords b i ws)) i (length ws) ≡ ws
+puts-back
+    : (b : List ℕ) (i : ℕ) (ws : List ℕ) → i + length ws ≤ length b / 4
+    → listFrom (wordAt (putWords b i ws)) i (length ws) ≡ ws
 unfolding putWords listFrom
 puts-back b i [] h = refl
 puts-back b i (w ∷ ws) h =
     let h′ : suc i + length ws ≤ length (putWord b i w) / 4 = rw (length-put b i w) (omega arith) in
-    rw (puts-before (putWord b i w) (suc i) ws i (omega arith), word-same b i w (omega arith), puts-back (putWord b i w) (suc i) ws h′)
+    rw (
+      puts-before (putWord b i w) (suc i) ws i (omega arith),
+      word-same b i w (omega arith),
+      puts-back (putWord b i w) (suc i) ws h′,
+    )
 
 -- the words stored are the words loaded
 pub store-load : (b ws : List ℕ) → 4 * length ws ≤ length b → wordsOf (withWords b ws) (length ws) ≡ ws
@@ -193,9 +211,12 @@ store-load b ws h = puts-back b 0 ws (omega arith)
 
 -- bytes past the table
 put-past : (b : List ℕ) (i w k : ℕ) → 4 * i + 4 ≤ k → getD (putWord b i w) k 0 ≡ getD b k 0
-put-past b i w k h = ⊎-elim (λ q. rw (put-in b i w q) (off b (4 * i) w k (inr (omega arith)))) (λ q. rw (put-out b i w q)) (has b i)
+put-past b i w k h =
+    ⊎-elim (λ q. rw (put-in b i w q) (off b (4 * i) w k (inr (omega arith)))) (λ q. rw (put-out b i w q)) (has b i)
 
-puts-past : (b : List ℕ) (i : ℕ) (ws : List ℕ) (k : ℕ) → 4 * (i + length ws) ≤ k → getD (putWords b i ws) k 0 ≡ getD b k 0
+puts-past
+    : (b : List ℕ) (i : ℕ) (ws : List ℕ) (k : ℕ) → 4 * (i + length ws) ≤ k
+    → getD (putWords b i ws) k 0 ≡ getD b k 0
 unfolding putWords
 puts-past b i [] k h = refl
 puts-past b i (w ∷ ws) k h = puts-past (putWord b i w) (suc i) ws k (omega arith) ∙ put-past b i w k (omega arith)
@@ -207,7 +228,8 @@ past-table b ws k h = puts-past b 0 ws k (omega arith)
 past-all : (b : List ℕ) (i : ℕ) (ws : List ℕ) → length b / 4 ≤ i → putWords b i ws ≡ b
 unfolding putWords
 past-all b i [] h = refl
-past-all b i (w ∷ ws) h = ap (λ (x : List ℕ). putWords x (suc i) ws) (put-out b i w h) ∙ past-all b (suc i) ws (omega arith)
+past-all b i (w ∷ ws) h =
+    ap (λ (x : List ℕ). putWords x (suc i) ws) (put-out b i w h) ∙ past-all b (suc i) ws (omega arith)
 
 pub puts-out : (b ws : List ℕ) (i : ℕ) → min (length ws) (length b / 4) ≤ i → putWords b i (drop i ws) ≡ b
 unfolding putWords

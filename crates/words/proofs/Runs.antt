@@ -40,7 +40,9 @@ module _ {A : Type 0} (f : ℕ → A) where
       let z : 0 + i ≡ i = omega arith in
       rw (add-one, take-suc-set l i v h, from-snoc 0 i, z, p, e)
 
-  pub fill-all : (l : List A) (i n : ℕ) → length l ≡ n → n ≤ i → i ≤ n → take i l ≡ listFrom f 0 i → l ≡ listFrom f 0 n
+  pub fill-all
+      : (l : List A) (i n : ℕ) → length l ≡ n → n ≤ i → i ≤ n → take i l ≡ listFrom f 0 i
+      → l ≡ listFrom f 0 n
   fill-all l i n e h k p =
       let q : i ≡ n = omega arith in
       sym (take-all i l (omega arith)) ∙ p ∙ ap (listFrom f 0) q
@@ -72,7 +74,9 @@ module _ {A : Type 0} where
   getD-past f a (suc n) (suc i) d h = getD-past f (suc a) n i d (omega arith)
 
   -- what holds of each of such a list holds at each index
-  pub all-from : (P : A → Type 0) (f : ℕ → A) (a n : ℕ) → All P (listFrom f a n) → (k : ℕ) → k < n → P (f (a + k))
+  pub all-from
+      : (P : A → Type 0) (f : ℕ → A) (a n : ℕ) → All P (listFrom f a n) → (k : ℕ) → k < n
+      → P (f (a + k))
   unfolding listFrom
   all-from P f a zero s k h = absurd (omega arith)
   all-from P f a (suc n) s zero h = rw add-zero (s .0)

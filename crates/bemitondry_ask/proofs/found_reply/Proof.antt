@@ -6,7 +6,7 @@ use Rattle.bemitondry_ask.proofs.found_reply.Tie as tie
 
 returns : tie.Need-returns
 unfolding foundReply
-returns c = cc
+returns c = rw (c .done .ensures, c .before .bits .ensures)
 
 pub found-reply-spec : {M : Type 1} → statement M
 found-reply-spec = tie.close (tie.spec

@@ -12,8 +12,12 @@ unfolding queryReply replyOf
 returns c =
     let t = c .before .before .before .before .before in
     let n = t .before in
-    rw
-    (sym (n .before .before .query-number .ensures), sym (n .before .tree-number .ensures), sym (n .lower .ensures), eq-eqb _ 0 (t .if1 .taken))
+    rw (
+      sym (n .before .before .query-number .ensures),
+      sym (n .before .tree-number .ensures),
+      sym (n .lower .ensures),
+      eq-eqb _ 0 (t .if1 .taken),
+    )
     (rw (c .found-reply .ensures, c .before .hit .ensures, c .before .before .vec-at .ensures))
 
 returns-2 : tie.Need-returns-2
@@ -21,8 +25,12 @@ unfolding queryReply replyOf
 returns-2 c =
     let t = c .before in
     let n = t .before in
-    rw
-    (sym (n .before .before .query-number .ensures), sym (n .before .tree-number .ensures), sym (n .lower .ensures), ne-eqb _ 0 (t .if1 .left))
+    rw (
+      sym (n .before .before .query-number .ensures),
+      sym (n .before .tree-number .ensures),
+      sym (n .lower .ensures),
+      ne-eqb _ 0 (t .if1 .left),
+    )
     (c .refused .ensures)
 
 pub query-spec : {M : Type 1} → statement M

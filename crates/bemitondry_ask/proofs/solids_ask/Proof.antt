@@ -7,7 +7,8 @@ use Rattle.bemitondry_ask.proofs.solids_ask.Tie as tie
 returns : tie.Need-returns
 unfolding solidsAsk
 returns c =
-    cc
+    let b1 = c .before in let b2 = b1 .before in let b3 = b2 .before in
+    rw (c .lower2 .ensures, b1 .lower .ensures, b2 .unless .ensures, b3 .judge-solids .ensures)
 
 pub solids-ask-spec : {M : Type 1} → statement M
 solids-ask-spec =

@@ -12,8 +12,7 @@ returns c =
 
 returns-2 : tie.Need-returns-2
 unfolding tracedReply
-returns-2 c =
-    rw (c .before .before .t2 .given .1) (cc)
+returns-2 c = rw (c .before .before .t2 .given .1, c .done2 .ensures)
 
 pub traced-reply-spec : {M : Type 1} → statement M
 traced-reply-spec =

@@ -6,7 +6,10 @@ use Rattle.bemitondry_emitter.proofs.aim_ok.Tie as tie
 
 returns : tie.Need-returns
 unfolding aimOk
-returns c = cc
+returns c =
+    let b1 = c .before in let b2 = b1 .before in let b3 = b2 .before in let b4 = b3 .before in
+    rw (c .both2 .ensures, b1 .both .ensures, b2 .up-to .ensures, b3 .within2 .ensures)
+    (rw (b4 .within .ensures))
 
 pub aim-ok-spec : {M : Type 1} → statement M
 aim-ok-spec =

@@ -6,7 +6,7 @@ use Rattle.bemitondry_emitter.proofs.emitted_reply.Tie as tie
 
 returns : tie.Need-returns
 unfolding emittedReply
-returns c = rw (c .before .enum-told .given .1) (cc)
+returns c = rw (c .before .enum-told .given .1, c .done .ensures)
 
 returns-2 : tie.Need-returns-2
 unfolding emittedReply

@@ -21,10 +21,16 @@ loop-holds : tie.Need-loop-holds Inv-loop μ-loop
 loop-holds c = (search needs, sym (emitter-none _ _ _ _))
 
 loop-again : tie.Need-loop-again Inv-loop μ-loop
-loop-again c = (omega arith, rw (emitter-more, zero-add) (cc))
+loop-again c = (
+  omega arith,
+  rw (emitter-more, zero-add, c .emitter-step .ensures, c .before .light-in .ensures)
+      (rw (c .before .before .before .loop .inv .1)),
+)
 
 returns : tie.Need-returns Inv-loop μ-loop
-returns c = let e : c .before .loop .i ≡ c .before .before .before .args .n = omega arith in cc
+returns c =
+    let e : c .before .loop .i ≡ c .before .before .before .args .n = omega arith in
+    rw (sym e) (c .before .loop .inv .1)
 
 pub emitter-in-spec : {M : Type 1} → statement M
 emitter-in-spec =

@@ -6,11 +6,11 @@ use Rattle.bemitondry_entry.proofs.added_reply.Tie as tie
 
 returns : tie.Need-returns
 unfolding addedReply
-returns c = rw (c .before .before .a .given .1) (cc)
+returns c = rw (c .before .before .a .given .1, c .refused .ensures)
 
 returns-2 : tie.Need-returns-2
 unfolding addedReply
-returns-2 c = rw (c .before .before .a2 .given .1) (cc)
+returns-2 c = rw (c .before .before .a2 .given .1, c .done .ensures)
 
 pub added-reply-spec : {M : Type 1} → statement M
 added-reply-spec =

@@ -6,7 +6,9 @@ use Rattle.bemitondry_light.proofs.lit_reply.Tie as tie
 
 returns : tie.Need-returns
 unfolding litReply
-returns c = cc
+returns c =
+    let b1 = c .before in let b2 = b1 .before in let b3 = b2 .before in
+    rw (c .done .ensures, b1 .bits3 .ensures, b2 .bits2 .ensures, b3 .bits .ensures)
 
 pub lit-reply-spec : {M : Type 1} → statement M
 lit-reply-spec =

@@ -6,7 +6,7 @@ use Rattle.bemitondry_light.proofs.site_ok.Tie as tie
 
 returns : tie.Need-returns
 unfolding siteOk
-returns c = cc
+returns c = rw (c .both .ensures, c .before .within2 .ensures, c .before .before .within .ensures)
 
 pub site-ok-spec : {M : Type 1} → statement M
 site-ok-spec = tie.close (tie.spec

@@ -13,7 +13,8 @@ use Rattle.bemitondry_tree.proofs.clear.Statement.{statement}
 use Rattle.bemitondry_tree.proofs.clear.Tie as tie
 
 abbrev Inv-loop : tie.InvT-loop
-Inv-loop ws₀ i₀ ws i = (i ≤ length ws₀) × (length ws ≡ length ws₀) × (ws ≡ replicate i 0 ++ drop i ws₀)
+Inv-loop ws₀ i₀ ws i =
+    (i ≤ length ws₀) × (length ws ≡ length ws₀) × (ws ≡ replicate i 0 ++ drop i ws₀)
 
 abbrev μ-loop : tie.MeasureT-loop
 μ-loop ws₀ i₀ ws i = length ws₀ - i

@@ -29,12 +29,16 @@ unfolding frontWord
 loop-again c =
     let l = c .before .before .before .loop in
     let s = c .before .before .before .before .before .args in
-    let e = c .word-if .ensures ∙ ap (λ (x : ℕ). cond (ltb (l .i) (s .k)) x 0) (c .before .word-in .ensures) in
-    (search needs, search needs, fill-more (frontWord (s .ws .now) (s .from) (s .k)) (l .to) (l .i) _ (search needs) e (l .inv .2))
+    let e = c .word-if .ensures ∙ ap (λ (x : ℕ). cond (ltb (l .i) (s .k)) x 0) (c .before .word-in .ensures) in (
+      search needs,
+      search needs,
+      fill-more (frontWord (s .ws .now) (s .from) (s .k)) (l .to) (l .i) _ (search needs) e (l .inv .2),
+    )
 
 returns : tie.Need-returns Inv-loop μ-loop
 returns c =
-    let l = c .before .loop in fill-all (frontWord _ _ _) (l .to) (l .i) _ (l .inv .1) (search needs) (search needs) (l .inv .2)
+    let l = c .before .loop in fill-all (frontWord _ _ _) (l .to) (l .i) _ (l .inv .1) (search needs) (search needs)
+    (l .inv .2)
 
 pub copy-front-spec : {M : Type 1} → statement M
 copy-front-spec =

@@ -13,7 +13,8 @@ returns c = λ e. rw (ap isGood (sym e) ∙ sym (c .before .is-good .ensures) �
 returns-2 : tie.Need-returns-2
 unfolding judgedTree offeredTree offeredNumber
 returns-2 c =
-    λ e. rw (ap isGood (sym e) ∙ sym (c .before .before .is-good .ensures) ∙ c .before .if1 .left) (c .refused-number .ensures)
+    λ e. rw (ap isGood (sym e) ∙ sym (c .before .before .is-good .ensures) ∙ c .before .if1 .left)
+    (c .refused-number .ensures)
 
 pub offered-number-spec : {M : Type 1} → statement M
 offered-number-spec =

@@ -6,7 +6,10 @@ use Rattle.bemitondry_values.proofs.acos.Tie as tie
 
 returns : tie.Need-returns
 unfolding acosReply
-returns c = cc
+returns c =
+    let b1 = c .before in let b2 = b1 .before in let b3 = b2 .before in let b4 = b3 .before in
+    rw (c .float-reply .ensures, b1 .acos .ensures, b2 .lower .ensures, b3 .unless .ensures)
+    (rw (b4 .magnitude .ensures))
 
 pub acos-spec : {M : Type 1} → statement M
 acos-spec =

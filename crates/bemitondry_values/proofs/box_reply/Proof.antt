@@ -18,7 +18,7 @@ returns-2 c = rw (c .before .before .before .b .given .1) (simp (ne-eqb _ 0 (c .
 
 returns-3 : tie.Need-returns-3
 unfolding boxReply
-returns-3 c = rw (c .before .before .enum-told .given .1) (cc)
+returns-3 c = rw (c .before .before .enum-told .given .1, c .refused2 .ensures, c .before .lower .ensures)
 
 pub box-reply-spec : {M : Type 1} → statement M
 box-reply-spec =

@@ -6,7 +6,9 @@ use Rattle.bemitondry_values.proofs.f0.Tie as tie
 
 returns : tie.Need-returns
 unfolding f0Reply
-returns c = cc
+returns c =
+    let b1 = c .before in let b2 = b1 .before in let b3 = b2 .before in
+    rw (c .vec-reply .ensures, b1 .f0-of .ensures, b2 .lower .ensures, b3 .material-number .ensures)
 
 pub f0-spec : {M : Type 1} → statement M
 f0-spec =

@@ -8,11 +8,11 @@ use Rattle.bemitondry_values.proofs.float_reply.Tie as tie
 
 returns : tie.Need-returns
 unfolding floatReply replyOf
-returns c = simp (eq-eqb _ 0 (c .before .before .if1 .taken)) (cc)
+returns c = simp (eq-eqb _ 0 (c .before .before .if1 .taken)) (rw (c .done .ensures, c .before .bits .ensures))
 
 returns-2 : tie.Need-returns-2
 unfolding floatReply replyOf
-returns-2 c = simp (ne-eqb _ 0 (c .before .if1 .left)) (cc)
+returns-2 c = simp (ne-eqb _ 0 (c .before .if1 .left)) (rw (c .refused .ensures))
 
 pub float-reply-spec : {M : Type 1} → statement M
 float-reply-spec =

@@ -6,7 +6,10 @@ use Rattle.bemitondry_values.proofs.prim_bounds.Tie as tie
 
 returns : tie.Need-returns
 unfolding primBoundsReply
-returns c = cc
+returns c =
+    let b1 = c .before in let b2 = b1 .before in let b3 = b2 .before in let b4 = b3 .before in
+    rw (c .box-reply .ensures, b1 .bounds .ensures, b2 .lower .ensures, b3 .prim-number .ensures)
+    (rw (b4 .shape-of .ensures))
 
 pub prim-bounds-spec : {M : Type 1} → statement M
 prim-bounds-spec =

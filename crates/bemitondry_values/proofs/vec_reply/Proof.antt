@@ -8,11 +8,18 @@ use Rattle.bemitondry_values.proofs.vec_reply.Tie as tie
 
 returns : tie.Need-returns
 unfolding vecReply replyOf
-returns c = simp (eq-eqb _ 0 (c .before .before .before .before .if1 .taken)) (cc)
+returns c =
+    simp (eq-eqb _ 0 (c .before .before .before .before .if1 .taken))
+    (rw (
+      c .done .ensures,
+      c .before .bits3 .ensures,
+      c .before .before .bits2 .ensures,
+      c .before .before .before .bits .ensures,
+    ))
 
 returns-2 : tie.Need-returns-2
 unfolding vecReply replyOf
-returns-2 c = simp (ne-eqb _ 0 (c .before .if1 .left)) (cc)
+returns-2 c = simp (ne-eqb _ 0 (c .before .if1 .left)) (rw (c .refused .ensures))
 
 pub vec-reply-spec : {M : Type 1} → statement M
 vec-reply-spec =

@@ -6,7 +6,7 @@ use Rattle.bsdf.proofs.d_ggx.Tie as tie
 
 returns : tie.Need-returns
 unfolding dGgxOf
-returns c = cc
+returns c = rw (c .max .ensures)
 
 pub d-ggx-spec : {M : Type 1} → statement M
 d-ggx-spec = tie.close (tie.spec

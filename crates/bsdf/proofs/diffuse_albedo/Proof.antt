@@ -6,7 +6,7 @@ use Rattle.bsdf.proofs.diffuse_albedo.Tie as tie
 
 returns : tie.Need-returns
 unfolding diffuseAlbedoOf
-returns c = cc
+returns c = rw (c .scale .ensures)
 
 pub diffuse-albedo-spec : {M : Type 1} → statement M
 diffuse-albedo-spec = tie.close (tie.spec

@@ -6,7 +6,7 @@ use Rattle.bsdf.proofs.f0_of.Tie as tie
 
 returns : tie.Need-returns
 unfolding f0Of
-returns c = cc
+returns c = rw (c .lerp .ensures, c .before .splat .ensures)
 
 pub f0-of-spec : {M : Type 1} → statement M
 f0-of-spec = tie.close (tie.spec

@@ -6,7 +6,9 @@ use Rattle.bsdf.proofs.fresnel_schlick.Tie as tie
 
 returns : tie.Need-returns
 unfolding fresnelOf
-returns c = cc
+returns c =
+    let b1 = c .before in let b2 = b1 .before in let b3 = b2 .before in let b4 = b3 .before in
+    rw (c .add .ensures, b1 .scale .ensures, b2 .sub .ensures, b3 .splat .ensures, b4 .clamp .ensures)
 
 pub fresnel-schlick-spec : {M : Type 1} → statement M
 fresnel-schlick-spec =

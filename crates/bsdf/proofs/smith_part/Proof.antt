@@ -6,7 +6,7 @@ use Rattle.bsdf.proofs.smith_part.Tie as tie
 
 returns : tie.Need-returns
 unfolding smithPart
-returns c = cc
+returns c = rw (c .root .ensures)
 
 pub smith-part-spec : {M : Type 1} → statement M
 smith-part-spec = tie.close (tie.spec

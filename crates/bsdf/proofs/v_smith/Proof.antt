@@ -6,7 +6,7 @@ use Rattle.bsdf.proofs.v_smith.Tie as tie
 
 returns : tie.Need-returns
 unfolding vSmithOf
-returns c = cc
+returns c = rw (c .max .ensures, c .before .smith-part2 .ensures, c .before .before .smith-part .ensures)
 
 pub v-smith-spec : {M : Type 1} → statement M
 v-smith-spec = tie.close (tie.spec

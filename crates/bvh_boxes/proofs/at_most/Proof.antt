@@ -6,7 +6,7 @@ use Rattle.bvh_boxes.proofs.at_most.Tie as tie
 
 returns : tie.Need-returns
 unfolding atMost
-returns c = cc
+returns c = rw (c .both2 .ensures, c .before .both .ensures)
 
 pub at-most-spec : {M : Type 1} → statement M
 at-most-spec = tie.close (tie.spec

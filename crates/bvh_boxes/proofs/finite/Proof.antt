@@ -6,7 +6,7 @@ use Rattle.bvh_boxes.proofs.finite.Tie as tie
 
 returns : tie.Need-returns
 unfolding finiteBox
-returns c = cc
+returns c = rw (c .both .ensures, c .before .within2 .ensures, c .before .before .within .ensures)
 
 pub finite-spec : {M : Type 1} → statement M
 finite-spec = tie.close (tie.spec

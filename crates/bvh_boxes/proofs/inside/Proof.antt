@@ -6,7 +6,7 @@ use Rattle.bvh_boxes.proofs.inside.Tie as tie
 
 returns : tie.Need-returns
 unfolding inside
-returns c = cc
+returns c = rw (c .both .ensures, c .before .at-most2 .ensures, c .before .before .at-most .ensures)
 
 pub inside-spec : {M : Type 1} → statement M
 inside-spec = tie.close (tie.spec

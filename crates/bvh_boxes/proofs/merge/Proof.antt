@@ -6,7 +6,7 @@ use Rattle.bvh_boxes.proofs.merge.Tie as tie
 
 returns : tie.Need-returns
 unfolding merge
-returns c = cc
+returns c = rw (c .max .ensures, c .before .min .ensures)
 
 pub merge-spec : {M : Type 1} → statement M
 merge-spec = tie.close (tie.spec

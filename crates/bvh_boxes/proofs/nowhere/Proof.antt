@@ -6,7 +6,7 @@ use Rattle.bvh_boxes.proofs.nowhere.Tie as tie
 
 returns : tie.Need-returns
 unfolding vsplat
-returns c = cc
+returns c = rw (c .splat2 .ensures, c .before .splat .ensures)
 
 pub nowhere-spec : {M : Type 1} → statement M
 nowhere-spec = tie.close (tie.spec

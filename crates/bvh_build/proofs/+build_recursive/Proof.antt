@@ -5,7 +5,8 @@ use native.Mathlib.Omega.{arith}
 use mathlib.Core.Path.{_≡_, sym}
 use mathlib.Core.List.{_++_}
 use lib.ListN.{length, drop}
-use Rattle.bvh_build.proofs.Level.{Cut, cut-known, back-length, right-falls, whole-length, lays-none, lays-leaf}
+use Rattle.bvh_build.proofs.Level.{Cut, cut-known, back-length, right-falls, whole-length, lays-none}
+use Rattle.bvh_build.proofs.Level.{lays-leaf}
 use Rattle.bvh_build.proofs.Level.{lays-node}
 use Prim.Native.Nat.{ℕ, _<_}
 use borrow.Fn.Kinds.{In}
@@ -75,16 +76,20 @@ cut-of
 cut-of t c =
     let s = c .before .before .before in
     let o = s .before .before .before .before in
-    cut-known _ _ _ _ _ (o .span-of .ensures) (s .before .extent .ensures) (s .stops .ensures) _ _ (c .before .before .if2 .left) (c .cut .ensures)
+    cut-known _ _ _ _ _ (o .span-of .ensures) (s .before .extent .ensures) (s .stops .ensures) _ _
+    (c .before .before .if2 .left) (c .cut .ensures)
 
 back-of : (t : ℕ) (c : build-recursive-lts.After-build-recursive (R t) (build-recursive-at t) build-recursive.Post)
-    → length (c .build-recursive .last .1 .0 ++ drop (c .before .before .before .before .before .before .cut .result) (c .before .before .before .before .before .before .cut .last .0))
+    → length (c .build-recursive .last .1 .0 ++ drop
+    (c .before .before .before .before .before .before .cut .result)
+    (c .before .before .before .before .before .before .cut .last .0))
     ≡ length (c .before .before .before .before .before .before .before .before .before .before .before .before .before .before .before .before .before .before .args .os .now)
 back-of t c =
     back-length _ _ (c .build-recursive .last .1 .0) _ (cut-of t (c .before .before .before .before .before .before))
     (c .build-recursive .kept .1 .0)
 
-build-recursive-returns : (t : ℕ) → build-recursive-lts.Need-returns (R t) (build-recursive-at t) build-recursive.Post
+build-recursive-returns
+    : (t : ℕ) → build-recursive-lts.Need-returns (R t) (build-recursive-at t) build-recursive.Post
 build-recursive-returns t c = lays-none _ _ _ _ _ _ _ _ _ (c .if1 .taken)
 
 build-recursive-span-of-requires
@@ -111,7 +116,8 @@ build-recursive-put-node-requires
     : (t : ℕ) → build-recursive-lts.Need-put-node-requires (R t) (build-recursive-at t) build-recursive.Post
 build-recursive-put-node-requires t c κs = search needs
 
-build-recursive-add-t25 : (t : ℕ) → build-recursive-lts.Need-add-t25 (R t) (build-recursive-at t) build-recursive.Post
+build-recursive-add-t25
+    : (t : ℕ) → build-recursive-lts.Need-add-t25 (R t) (build-recursive-at t) build-recursive.Post
 build-recursive-add-t25 t c = omega (arith, (c .before .before .before .before .before .before .before .before .before .before .before .if1 .left))
 
 build-recursive-same-length
@@ -124,7 +130,8 @@ build-recursive-returns-2 t c =
     let n = c .before .before in
     let s = n .before .before .before in
     let o = s .before .before .before .before in
-    lays-leaf _ _ _ _ _ (o .span-of .ensures) (s .before .extent .ensures) (s .stops .ensures) _ _ _ _ _ _ _ (n .before .before .if2 .taken) (n .narrow .ensures)
+    lays-leaf _ _ _ _ _ (o .span-of .ensures) (s .before .extent .ensures) (s .stops .ensures) _ _ _ _ _ _ _
+    (n .before .before .if2 .taken) (n .narrow .ensures)
     (c .before .narrow2 .ensures) (c .put-node .ensures)
 
 build-recursive-cut-requires
@@ -136,11 +143,13 @@ build-recursive-less-requires
 build-recursive-less-requires t c κs = search needs
 
 build-recursive-slice-relend-prefix-build-recursive :
-    (t : ℕ) → build-recursive-lts.Need-slice-relend-prefix-build-recursive (R t) (build-recursive-at t) build-recursive.Post
+    (t : ℕ) → build-recursive-lts.Need-slice-relend-prefix-build-recursive (R t)
+    (build-recursive-at t) build-recursive.Post
 build-recursive-slice-relend-prefix-build-recursive t c = let k = cut-of t (c .before .before .before .before) in omega arith
 
 build-recursive-slice-aggregate-build-recursive :
-    (t : ℕ) → build-recursive-lts.Need-slice-aggregate-build-recursive (R t) (build-recursive-at t) build-recursive.Post
+    (t : ℕ) → build-recursive-lts.Need-slice-aggregate-build-recursive (R t)
+    (build-recursive-at t) build-recursive.Post
 build-recursive-slice-aggregate-build-recursive t c = sym (cut-of t (c .before .before .before .before .before) .taken)
 
 build-recursive-add-build-recursive
@@ -191,8 +200,11 @@ build-recursive-build-recursive-requires-2 :
     (t : ℕ) → build-recursive-lts.Need-build-recursive-requires-2 (R t) (build-recursive-at t) build-recursive.Post
 build-recursive-build-recursive-requires-2 t c κs =
     let l = c .before .before .before .before .before .before .before .before in
-    let k = l .before .before .before .before .before .before in
-    (right-falls _ _ (l .build-recursive .last .1 .0) _ (cut-of t k) (l .build-recursive .kept .1 .0) _ (k .before .before .before .before .before .before .before .before .before .before .before .before .pre .0), tt)
+    let k = l .before .before .before .before .before .before in (
+      right-falls _ _ (l .build-recursive .last .1 .0) _ (cut-of t k) (l .build-recursive .kept .1 .0) _
+          (k .before .before .before .before .before .before .before .before .before .before .before .before .pre .0),
+      tt,
+    )
 
 build-recursive-both-requires
     : (t : ℕ) → build-recursive-lts.Need-both-requires (R t) (build-recursive-at t) build-recursive.Post
@@ -203,7 +215,8 @@ build-recursive-same-length-2
 build-recursive-same-length-2 t c =
     let r = c .before .before .before in
     let l = r .before .before .before .before .before .before .before .before .before in
-    whole-length _ _ (l .build-recursive .last .1 .0) _ (cut-of t (l .before .before .before .before .before .before)) (l .build-recursive .kept .1 .0) (r .build-recursive2 .last .1 .0)
+    whole-length _ _ (l .build-recursive .last .1 .0) _ (cut-of t (l .before .before .before .before .before .before))
+    (l .build-recursive .kept .1 .0) (r .build-recursive2 .last .1 .0)
     (r .build-recursive2 .kept .1 .0)
 
 build-recursive-returns-3
@@ -217,8 +230,10 @@ build-recursive-returns-3 t c =
     let k = d .before .before .before in
     let s = k .before .before .before in
     let o = s .before .before .before .before in
-    lays-node _ _ _ _ _ (o .span-of .ensures) (s .before .extent .ensures) (s .stops .ensures) _ _ _ _ (k .cut .result) (k .cut .last .0) _ _ _
-    (l .build-recursive .last .1 .0) _ _ _ _ _ (r .build-recursive2 .last .1 .0) _ (k .before .before .if2 .left) (k .cut .ensures) (d .less .ensures)
+    lays-node _ _ _ _ _ (o .span-of .ensures) (s .before .extent .ensures) (s .stops .ensures) _ _ _ _
+    (k .cut .result) (k .cut .last .0) _ _ _
+    (l .build-recursive .last .1 .0) _ _ _ _ _ (r .build-recursive2 .last .1 .0) _ (k .before .before .if2 .left)
+    (k .cut .ensures) (d .less .ensures)
     (l .build-recursive .ensures) (l .build-recursive .kept .1 .0) (n .narrow3 .ensures) (w .before .put-node2 .ensures)
     (w .wrapping-add-usize .ensures) (r .build-recursive2 .ensures) (c .both .ensures)
 

@@ -19,7 +19,8 @@ returns-2 : tie.Need-returns-2
 returns-2 c = λ e l p h.
     let a = c .before .before .before .before .before .before .before .before .args in
     let k : length (take (a .n) (a .ow .now)) ≡ a .n = length-take-le (a .n) (a .ow .now) (omega arith) in
-    builds-some _ _ _ _ _ _ _ (c .before .before .build-with .ensures (table-of 256 f0) (k ∙ e) (omega arith) (omega arith)) e p (omega arith)
+    builds-some _ _ _ _ _ _ _ (c .before .before .build-with .ensures (table-of 256 f0) (k ∙ e) (omega arith)
+    (omega arith)) e p (omega arith)
 
 pub build-front-spec : {M : Type 1} → statement M
 build-front-spec =

@@ -27,7 +27,8 @@ loop-again c =
     let L = l .loop in
     let a = l .before .before .before .args in (
       omega arith,
-      load-more (boxesOf (planOf (a .ws .now) (a .fs .now))) _ (L .t) _ (L .o) _ (omega (arith, box-count (a .ws .now) (a .fs .now)))
+      load-more (boxesOf (planOf (a .ws .now) (a .fs .now))) _ (L .t) _ (L .o) _
+          (omega (arith, box-count (a .ws .now) (a .fs .now)))
           (p .before .object-box .ensures) (p .put-box .ensures) (L .inv .1),
     )
 
@@ -35,7 +36,8 @@ returns : tie.Need-returns Inv-loop μ-loop
 returns c =
     let L = c .before .loop in
     let a = c .before .before .before .before .args in
-    load-all (boxesOf (planOf (a .ws .now) (a .fs .now))) _ (L .t) (L .o) (omega (arith, box-count (a .ws .now) (a .fs .now))) (L .inv .1)
+    load-all (boxesOf (planOf (a .ws .now) (a .fs .now))) _ (L .t) (L .o)
+    (omega (arith, box-count (a .ws .now) (a .fs .now))) (L .inv .1)
 
 pub load-boxes-spec : {M : Type 1} → statement M
 load-boxes-spec =

@@ -12,7 +12,8 @@ returns : tie.Need-returns
 returns c =
     let z = c .before .before in
     let w = z .before .before in
-    node-put _ _ _ _ _ _ _ _ _ _ _ _ (w .before .bits .ensures) (w .bits2 .ensures) (z .before .bits3 .ensures) (z .bits4 .ensures) (c .before .bits5 .ensures)
+    node-put _ _ _ _ _ _ _ _ _ _ _ _ (w .before .bits .ensures) (w .bits2 .ensures) (z .before .bits3 .ensures)
+    (z .bits4 .ensures) (c .before .bits5 .ensures)
     (c .bits6 .ensures)
 
 returns-2 : tie.Need-returns-2

@@ -3,7 +3,8 @@
 use borrow.Author.Needs.{needs}
 use native.Mathlib.Nat.{pos-of-ne-zero}
 use native.Mathlib.Omega.{arith}
-use Rattle.bvh_rules.proofs.Level.{check-none, check-wrong, check-leaf, check-left-bad, check-right, check-other}
+use Rattle.bvh_rules.proofs.Level.{check-none, check-wrong, check-leaf, check-left-bad, check-right}
+use Rattle.bvh_rules.proofs.Level.{check-other}
 use Prim.Native.Nat.{ℕ, _<_}
 use borrow.Fn.Kinds.{In}
 use borrow.Fn.PlainCycle.{Measures, is, falls, and}
@@ -26,7 +27,14 @@ check-sub-below t =
     and 2 check-sub-kinds.ps (falls 2 check-sub-kinds.ps _<_ μ-check-sub t) check-sub.Pre
 
 abbrev R : ℕ → check-sub-lts.Claims
-R t = (node-at-reads.Asked, node-at-reads.Learnt, kind-of-reads.Asked, kind-of-reads.Learnt, check-sub-below t, check-sub.Post)
+R t = (
+  node-at-reads.Asked,
+  node-at-reads.Learnt,
+  kind-of-reads.Asked,
+  kind-of-reads.Learnt,
+  check-sub-below t,
+  check-sub.Post,
+)
 
 check-sub-returns : (t : ℕ) → check-sub-lts.Need-returns (R t) (check-sub-at t) check-sub.Post
 check-sub-returns t c = check-none _ _ _ _ _ _ _ _ (c .if1 .taken)
@@ -61,7 +69,8 @@ check-sub-enum-known-part t c = search needs
 check-sub-sub-check-sub-2 : (t : ℕ) → check-sub-lts.Need-sub-check-sub-2 (R t) (check-sub-at t) check-sub.Post
 check-sub-sub-check-sub-2 t c = omega arith
 
-check-sub-check-sub-requires-2 : (t : ℕ) → check-sub-lts.Need-check-sub-requires-2 (R t) (check-sub-at t) check-sub.Post
+check-sub-check-sub-requires-2
+    : (t : ℕ) → check-sub-lts.Need-check-sub-requires-2 (R t) (check-sub-at t) check-sub.Post
 check-sub-check-sub-requires-2 t c κs = omega arith
 
 check-sub-returns-2 : (t : ℕ) → check-sub-lts.Need-returns-2 (R t) (check-sub-at t) check-sub.Post

@@ -10,7 +10,8 @@ use Rattle.bvh_rules.proofs.check_order.Statement.{statement}
 use Rattle.bvh_rules.proofs.check_order.Tie as tie
 
 abbrev Inv-loop : tie.InvT-loop
-Inv-loop ws n seen₀ i₀ seen i = (i ≤ n) × (n ≤ 256) × (marksOf (orderOf ws) n (n - i) i seen ≡ orderOk (orderOf ws) n)
+Inv-loop ws n seen₀ i₀ seen i =
+    (i ≤ n) × (n ≤ 256) × (marksOf (orderOf ws) n (n - i) i seen ≡ orderOk (orderOf ws) n)
 
 abbrev μ-loop : tie.MeasureT-loop
 μ-loop ws n seen₀ i₀ seen i = n - i
@@ -29,11 +30,17 @@ returns-2 c =
 returns-3 : tie.Need-returns-3 Inv-loop μ-loop
 returns-3 c =
     sym
-    (marks-twice _ _ _ _ (c .before .before .before .loop-test .taken) _ (c .before .before .order-at .ensures) (c .before .if2 .left) (c .if3 .taken))
+    (marks-twice _ _ _ _ (c .before .before .before .loop-test .taken) _ (c .before .before .order-at .ensures)
+    (c .before .if2 .left) (c .if3 .taken))
     ∙ c .before .before .before .before .loop .inv .2
 
 loop-again : tie.Need-loop-again Inv-loop μ-loop
-loop-again c = (omega arith, c .before .before .before .before .loop .inv .1, sym (marks-step _ _ _ _ (c .before .before .before .loop-test .taken) _ (c .before .before .order-at .ensures) (c .before .if2 .left) (c .if3 .left)) ∙ c .before .before .before .before .loop .inv .2)
+loop-again c = (
+  omega arith,
+  c .before .before .before .before .loop .inv .1,
+  sym (marks-step _ _ _ _ (c .before .before .before .loop-test .taken) _ (c .before .before .order-at .ensures)
+      (c .before .if2 .left) (c .if3 .left)) ∙ c .before .before .before .before .loop .inv .2,
+)
 
 returns-4 : tie.Need-returns-4 Inv-loop μ-loop
 returns-4 c = sym (marks-end _ _ _ _ (c .loop-test .left)) ∙ c .before .loop .inv .2

@@ -6,7 +6,7 @@ use Rattle.bvh_rules.proofs.held.Tie as tie
 
 returns : tie.Need-returns
 unfolding heldAt
-returns c = cc
+returns c = rw (c .inside .ensures, c .before .object-box .ensures, c .before .before .order-at .ensures)
 
 pub held-spec : {M : Type 1} → statement M
 held-spec = tie.close (tie.spec

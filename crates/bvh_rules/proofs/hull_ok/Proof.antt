@@ -6,7 +6,9 @@ use Rattle.bvh_rules.proofs.hull_ok.Tie as tie
 
 returns : tie.Need-returns
 unfolding hullOk
-returns c = cc
+returns c =
+    let b1 = c .before in let b2 = b1 .before in let b3 = b2 .before in
+    rw (c .both2 .ensures, b1 .both .ensures, b2 .inside .ensures, b3 .finite .ensures)
 
 pub hull-ok-spec : {M : Type 1} → statement M
 hull-ok-spec =

@@ -8,11 +8,13 @@ use Rattle.bvh_rules.proofs.leaf_ok.Tie as tie
 returns : tie.Need-returns
 returns c =
     c .holds-all .ensures ∙ sym
-    (leaf-good _ _ _ _ _ (c .before .before .before .objects .ensures) (sym (c .before .before .leaf-words .ensures) ∙ c .before .if1 .taken))
+    (leaf-good _ _ _ _ _ (c .before .before .before .objects .ensures)
+    (sym (c .before .before .leaf-words .ensures) ∙ c .before .if1 .taken))
 
 returns-2 : tie.Need-returns-2
 returns-2 c =
-    sym (leaf-bad _ _ _ _ _ (c .before .before .objects .ensures) (sym (c .before .leaf-words .ensures) ∙ c .if1 .left))
+    sym (leaf-bad _ _ _ _ _ (c .before .before .objects .ensures)
+    (sym (c .before .leaf-words .ensures) ∙ c .if1 .left))
 
 pub leaf-ok-spec : {M : Type 1} → statement M
 leaf-ok-spec =

@@ -6,7 +6,9 @@ use Rattle.bvh_rules.proofs.leaf_words.Tie as tie
 
 returns : tie.Need-returns
 unfolding leafWords
-returns c = cc
+returns c =
+    let b1 = c .before in let b2 = b1 .before in let b4 = b2 .before .before in
+    rw (c .both3 .ensures, b1 .both2 .ensures, b2 .left-of .ensures, b4 .both .ensures)
 
 pub leaf-words-spec : {M : Type 1} → statement M
 leaf-words-spec =

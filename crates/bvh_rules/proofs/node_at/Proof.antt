@@ -7,7 +7,8 @@ use Rattle.bvh_rules.proofs.node_at.Statement.{statement}
 use Rattle.bvh_rules.proofs.node_at.Tie as tie
 
 returns : tie.Need-returns
-returns c = sym (node-here _ _ _ (c .before .before .before .before .before .before .before .before .before .if1 .taken))
+returns c =
+    sym (node-here _ _ _ (c .before .before .before .before .before .before .before .before .before .if1 .taken))
 
 returns-2 : tie.Need-returns-2
 returns-2 c = rw (c .no-box .ensures) (sym (node-none _ _ _ (c .before .if1 .left)))

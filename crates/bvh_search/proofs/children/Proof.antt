@@ -14,13 +14,27 @@ returns-2 : tie.Need-returns-2
 unfolding childrenOf
 returns-2 c = let test = c .before .before .before .before .before in
     let calls = test .before in
-    rw (le-ltb 62 _ (calls .before .before .before .if1 .left), sym (calls .before .before .square-at .ensures), sym (calls .before .square-at2 .ensures), sym (calls .left-first .ensures), test .if2 .taken) (cc)
+    rw (
+      le-ltb 62 _ (calls .before .before .before .if1 .left),
+      sym (calls .before .before .square-at .ensures),
+      sym (calls .before .square-at2 .ensures),
+      sym (calls .left-first .ensures),
+      test .if2 .taken,
+    )
+    (rw (c .holding .ensures, c .before .before .wait .ensures .0, c .before .before .wait .ensures .1))
 
 returns-3 : tie.Need-returns-3
 unfolding childrenOf
 returns-3 c = let test = c .before .before .before .before .before in
     let calls = test .before in
-    rw (le-ltb 62 _ (calls .before .before .before .if1 .left), sym (calls .before .before .square-at .ensures), sym (calls .before .square-at2 .ensures), sym (calls .left-first .ensures), test .if2 .left) (cc)
+    rw (
+      le-ltb 62 _ (calls .before .before .before .if1 .left),
+      sym (calls .before .before .square-at .ensures),
+      sym (calls .before .square-at2 .ensures),
+      sym (calls .left-first .ensures),
+      test .if2 .left,
+    )
+    (rw (c .holding2 .ensures, c .before .before .wait2 .ensures .0, c .before .before .wait2 .ensures .1))
 
 pub children-spec : {M : Type 1} → statement M
 children-spec =

@@ -20,12 +20,14 @@ returns c = let x = c .before .before .before in
     let y = x .before .before in
     let a = y .before .args in
     rw (c .at-least .ensures, c .before .bar .ensures)
-    (far-by-bar (a .s) (a .d) (held-s (y .before)) (sym (y .usual .ensures) ∙ x .before .if1 .taken) (held-d (y .before)) (sym (x .usual2 .ensures) ∙ c .before .before .if2 .taken))
+    (far-by-bar (a .s) (a .d) (held-s (y .before)) (sym (y .usual .ensures) ∙ x .before .if1 .taken)
+    (held-d (y .before)) (sym (x .usual2 .ensures) ∙ c .before .before .if2 .taken))
 
 returns-2 : tie.Need-returns-2
 returns-2 c = let y = c .before .before .before .before in
     let a = y .before .args in
-    far-above (a .s) (a .d) (held-s (y .before)) (sym (y .usual .ensures) ∙ c .before .before .before .if1 .taken) (c .if3 .taken)
+    far-above (a .s) (a .d) (held-s (y .before)) (sym (y .usual .ensures) ∙ c .before .before .before .if1 .taken)
+    (c .if3 .taken)
 
 returns-3 : tie.Need-returns-3
 unfolding farOff

@@ -6,7 +6,7 @@ use Rattle.bvh_search.proofs.hit_in.Tie as tie
 
 returns : tie.Need-returns
 unfolding pieceIn
-returns c = cc
+returns c = rw (c .hit-of .ensures, c .before .order-at .ensures)
 
 pub hit-in-spec : {M : Type 1} → statement M
 hit-in-spec =

@@ -19,7 +19,11 @@ loop-holds : tie.Need-loop-holds Inv-loop μ-loop
 loop-holds c = let a = c .args in (search needs, hit-none (a .ws .now) (a .fs .now) (orderOf (a .ws .now)) (a .p) (a .s) (a .best))
 
 loop-again : tie.Need-loop-again Inv-loop μ-loop
-loop-again c = (omega arith, rw hit-more (cc))
+loop-again c = (
+  omega arith,
+  rw (hit-more, c .closer .ensures, c .before .hit-in .ensures)
+      (rw (c .before .before .before .loop .inv .1)),
+)
 
 returns : tie.Need-returns Inv-loop μ-loop
 returns c = let e : c .before .loop .j ≡ c .before .before .args .c = omega arith in cc

@@ -7,11 +7,14 @@ use Rattle.bvh_search.proofs.next.Tie as tie
 
 returns : tie.Need-returns
 unfolding nextOf
-returns c = rw (eq-eqb _ 0 (c .before .if1 .taken)) (cc)
+returns c = rw (eq-eqb _ 0 (c .before .if1 .taken), c .ended .ensures)
 
 returns-2 : tie.Need-returns-2
 unfolding nextOf
-returns-2 c = rw (ne-eqb _ 0 (c .before .before .before .before .if1 .left)) (cc)
+returns-2 c =
+    let b1 = c .before in let b2 = b1 .before in
+    rw (ne-eqb _ 0 (c .before .before .before .before .if1 .left), c .holding .ensures)
+    (rw (b1 .key-in .ensures, b2 .place-in .ensures))
 
 pub next-spec : {M : Type 1} → statement M
 next-spec =

@@ -7,7 +7,7 @@ use Rattle.bvh_search.proofs.parts.Tie as tie
 
 returns : tie.Need-returns
 unfolding partsRoots
-returns c = rw (sym (c .before .before .far-off .ensures), c .before .if1 .taken) (cc)
+returns c = rw (sym (c .before .before .far-off .ensures), c .before .if1 .taken, c .far-off2 .ensures)
 
 returns-2 : tie.Need-returns-2
 unfolding partsRoots

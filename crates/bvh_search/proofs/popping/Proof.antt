@@ -4,7 +4,7 @@ use Rattle.bvh_search.proofs.popping.Statement.{statement}
 use Rattle.bvh_search.proofs.popping.Tie as tie
 
 returns : tie.Need-returns
-returns c = cc
+returns c = rw (c .wrapping-add-u32 .ensures)
 
 pub popping-spec : {M : Type 1} → statement M
 popping-spec = tie.close (tie.spec

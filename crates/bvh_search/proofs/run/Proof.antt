@@ -35,15 +35,22 @@ loop-holds c = record {
 
 returns : tie.Need-returns Inv-loop μ-loop
 returns c = let x = c .before .before .before .before in
-    step-law _ _ _ _ _ _ _ _ _ _ (x .before .before .before .before .before .loop .inv) (x .before .before .before .if1 .taken) _ (x .step .ensures) .off (c .before .before .if2 .taken)
+    step-law _ _ _ _ _ _ _ _ _ _ (x .before .before .before .before .before .loop .inv)
+    (x .before .before .before .if1 .taken) _ (x .step .ensures) .off (c .before .before .if2 .taken)
 
 loop-less : tie.Need-loop-less Inv-loop μ-loop
 loop-less c = let x = c .before .before in
-    omega (arith, x .before .before .before .if1 .taken, step-law _ _ _ _ _ _ _ _ _ _ (x .before .before .before .before .before .loop .inv) (x .before .before .before .if1 .taken) _ (x .step .ensures) .pops)
+    omega (
+      arith,
+      x .before .before .before .if1 .taken,
+      step-law _ _ _ _ _ _ _ _ _ _ (x .before .before .before .before .before .loop .inv)
+          (x .before .before .before .if1 .taken) _ (x .step .ensures) .pops,
+    )
 
 loop-again : tie.Need-loop-again Inv-loop μ-loop
 loop-again c = let x = c .before .before in
-    step-law _ _ _ _ _ _ _ _ _ _ (x .before .before .before .before .before .loop .inv) (x .before .before .before .if1 .taken) _ (x .step .ensures) .on (c .if2 .left)
+    step-law _ _ _ _ _ _ _ _ _ _ (x .before .before .before .before .before .loop .inv)
+    (x .before .before .before .if1 .taken) _ (x .step .ensures) .on (c .if2 .left)
 
 returns-2 : tie.Need-returns-2 Inv-loop μ-loop
 returns-2 c = ran-out _ _ _ _ _ _ _ _ _ _ (c .before .before .before .loop .inv) (c .before .if1 .left)

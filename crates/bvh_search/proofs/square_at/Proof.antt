@@ -6,7 +6,7 @@ use Rattle.bvh_search.proofs.square_at.Tie as tie
 
 returns : tie.Need-returns
 unfolding squareAt
-returns c = cc
+returns c = rw (c .box-square .ensures, c .before .node-at .ensures)
 
 pub square-at-spec : {M : Type 1} → statement M
 square-at-spec = tie.close (tie.spec

@@ -14,7 +14,12 @@ returns-2 : tie.Need-returns-2
 unfolding steppedOf
 returns-2 c = let test = c .before .before .before .before .before in
     let calls = c .before .before in
-    rw (sym (test .before .far-off .ensures), test .if1 .left, sym (calls .popping2 .ensures), sym (c .before .node-at .ensures))
+    rw (
+      sym (test .before .far-off .ensures),
+      test .if1 .left,
+      sym (calls .popping2 .ensures),
+      sym (c .before .node-at .ensures),
+    )
     (c .opened .ensures)
 
 pub step-spec : {M : Type 1} → statement M

@@ -9,7 +9,8 @@ use Rattle.bvh_search.proofs.wait.Tie as tie
 returns-2 : tie.Need-returns-2
 returns-2 c = let test = c .before .before .before .before in
     let a = test .before .args in (
-      sym (set-out (a .stack .now) (a .sp) (a .at) (omega (arith, c .before .before .-stack2 .given .0, test .if1 .left))),
+      sym (set-out (a .stack .now) (a .sp) (a .at)
+          (omega (arith, c .before .before .-stack2 .given .0, test .if1 .left))),
       sym (set-out (a .keys .now) (a .sp) (a .key) (omega (arith, c .-keys2 .given .0, test .if1 .left))),
     )
 

@@ -6,7 +6,9 @@ use Rattle.bvh_split.proofs.bin_of.Tie as tie
 
 returns : tie.Need-returns
 unfolding binOf
-returns c = cc
+returns c =
+    let b3 = c .before .before .before in let b4 = b3 .before in
+    rw (c .bin-at .ensures, b3 .axis .ensures, b4 .centre .ensures)
 
 pub bin-of-spec : {M : Type 1} → statement M
 bin-of-spec = tie.close (tie.spec

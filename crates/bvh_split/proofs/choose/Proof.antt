@@ -17,13 +17,19 @@ returns-2 c = simp (ne-eqb _ _ (c .before .before .if1 .left), eq-eqb _ _ (c .if
 returns-3 : tie.Need-returns-3
 unfolding choose
 returns-3 c =
-    simp (ne-eqb _ _ (c .before .before .before .before .before .before .if1 .left), ne-eqb _ _ (c .before .before .before .before .if2 .left))
+    simp (
+      ne-eqb _ _ (c .before .before .before .before .before .before .if1 .left),
+      ne-eqb _ _ (c .before .before .before .before .if2 .left),
+    )
     (rw (sym (c .before .before .cost .ensures), c .if3 .taken))
 
 returns-4 : tie.Need-returns-4
 unfolding choose
 returns-4 c =
-    simp (ne-eqb _ _ (c .before .before .before .before .before .before .if1 .left), ne-eqb _ _ (c .before .before .before .before .if2 .left))
+    simp (
+      ne-eqb _ _ (c .before .before .before .before .before .before .if1 .left),
+      ne-eqb _ _ (c .before .before .before .before .if2 .left),
+    )
     (rw (sym (c .before .before .cost .ensures), c .if3 .left))
 
 pub choose-spec : {M : Type 1} → statement M

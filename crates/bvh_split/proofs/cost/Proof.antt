@@ -6,7 +6,9 @@ use Rattle.bvh_split.proofs.cost.Tie as tie
 
 returns : tie.Need-returns
 unfolding costOf
-returns c = cc
+returns c =
+    let b1 = c .before in let b2 = b1 .before in
+    rw (c .nearest-u32-to-f322 .ensures, b1 .area .ensures, b2 .nearest-u32-to-f32 .ensures)
 
 pub cost-spec : {M : Type 1} → statement M
 cost-spec =

@@ -6,7 +6,13 @@ use Rattle.bvh_split.proofs.cut.Tie as tie
 
 returns : tie.Need-returns
 unfolding splitOf cutOf
-returns c = ((cc), (cc))
+returns c =
+    let p = c .before .before .before in
+    let s = p .before .before in
+    let g = s .before .before in (
+      rw (c .evened .ensures, p .partition .ensures .0, s .best-split .ensures, g .grid-of .ensures),
+      rw (p .partition .ensures .1, s .best-split .ensures, g .grid-of .ensures),
+    )
 
 pub cut-spec : {M : Type 1} → statement M
 cut-spec =

@@ -4,7 +4,10 @@ use Rattle.bvh_split.proofs.drop_in.Statement.{statement}
 use Rattle.bvh_split.proofs.drop_in.Tie as tie
 
 returns : tie.Need-returns
-returns c = (rw (c .put-box .ensures, c .before .before .merge .ensures, c .before .before .before .box-at .ensures), c .before .before .before .before .before .before .count-in .ensures)
+returns c = (
+  rw (c .put-box .ensures, c .before .before .merge .ensures, c .before .before .before .box-at .ensures),
+  c .before .before .before .before .before .before .count-in .ensures,
+)
 
 pub drop-in-spec : {M : Type 1} → statement M
 drop-in-spec =

@@ -11,7 +11,8 @@ use Rattle.bvh_split.proofs.empty_boxes.Statement.{statement}
 use Rattle.bvh_split.proofs.empty_boxes.Tie as tie
 
 abbrev Inv-loop : tie.InvT-loop
-Inv-loop t₀ k₀ t k = (k ≤ length t₀ / 6) × (length t ≡ length t₀) × (take k (tableBoxes t) ≡ replicate k nowhere)
+Inv-loop t₀ k₀ t k =
+    (k ≤ length t₀ / 6) × (length t ≡ length t₀) × (take k (tableBoxes t) ≡ replicate k nowhere)
 
 abbrev μ-loop : tie.MeasureT-loop
 μ-loop t₀ k₀ t k = length t₀ / 6 - k
@@ -31,7 +32,8 @@ loop-again c = let L = c .before .before .before .before .before .before .loop i
 returns : tie.Need-returns Inv-loop μ-loop
 returns c = let L = c .before .loop in
     let t = c .before .before .before .args .t .now in
-    empty-all (L .t) (L .k) (length t / 6) (ap (λ (n : ℕ). n / 6) (L .inv .1)) (omega arith) (omega arith) (L .inv .2)
+    empty-all (L .t) (L .k) (length t / 6) (ap (λ (n : ℕ). n / 6) (L .inv .1)) (omega arith) (omega arith)
+    (L .inv .2)
 
 pub empty-boxes-spec : {M : Type 1} → statement M
 empty-boxes-spec =

@@ -6,7 +6,7 @@ use Rattle.bvh_split.proofs.extent.Tie as tie
 
 returns : tie.Need-returns
 unfolding extentOf
-returns c = cc
+returns c = rw (c .sub .ensures)
 
 pub extent-spec : {M : Type 1} → statement M
 extent-spec = tie.close (tie.spec

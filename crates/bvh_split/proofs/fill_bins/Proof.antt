@@ -15,7 +15,8 @@ use Rattle.bvh_split.proofs.fill_bins.Tie as tie
 abbrev Inv-loop : tie.InvT-loop
 Inv-loop os t g b₀ n₀ i₀ b n i =
     (i ≤ length os) ×
-    (binsFrom g (binned b n) (members (tableBoxes t) (drop i os)) ≡ binsFrom g (binned b₀ n₀) (members (tableBoxes t) os))
+    (binsFrom g (binned b n) (members (tableBoxes t) (drop i os)) ≡ binsFrom g (binned b₀ n₀)
+    (members (tableBoxes t) os))
 
 abbrev μ-loop : tie.MeasureT-loop
 μ-loop os t g b₀ n₀ i₀ b n i = length os - i
@@ -28,7 +29,9 @@ loop-again c = let L = c .before .before .before .before .before .before .loop i
     let a = c .before .before .before .before .before .before .before .before .before .args in
     let d = c .drop-in .ensures in (
       omega arith,
-      bins-turn _ (a .os .now) (L .i) (a .g) (L .b) _ (L .n) _ _ _ _ (c .before .before .before .before .before .loop-test .taken) (c .before .before .before .before .member .ensures) (c .before .bin-of .ensures) (d .0) (d .1) (L .inv .1),
+      bins-turn _ (a .os .now) (L .i) (a .g) (L .b) _ (L .n) _ _ _ _
+          (c .before .before .before .before .before .loop-test .taken)
+          (c .before .before .before .before .member .ensures) (c .before .bin-of .ensures) (d .0) (d .1) (L .inv .1),
     )
 
 returns : tie.Need-returns Inv-loop μ-loop

@@ -6,7 +6,7 @@ use Rattle.bvh_split.proofs.goes_left.Tie as tie
 
 returns : tie.Need-returns
 unfolding goesLeft
-returns c = cc
+returns c = rw (c .bin-of .ensures, c .before .box-at .ensures)
 
 pub goes-left-spec : {M : Type 1} → statement M
 goes-left-spec = tie.close (tie.spec

@@ -6,7 +6,9 @@ use Rattle.bvh_split.proofs.grid_of.Tie as tie
 
 returns : tie.Need-returns
 unfolding gridOf
-returns c = cc
+returns c =
+    let b1 = c .before in let b2 = b1 .before in let b3 = b2 .before in
+    rw (c .axis2 .ensures, b1 .axis .ensures, b2 .axis-of .ensures, b3 .extent .ensures)
 
 pub grid-of-spec : {M : Type 1} → statement M
 grid-of-spec =

@@ -6,7 +6,7 @@ use Rattle.bvh_split.proofs.grow.Tie as tie
 
 returns : tie.Need-returns
 unfolding grow
-returns c = cc
+returns c = rw (c .merge2 .ensures, c .before .point .ensures, c .before .before .merge .ensures)
 
 pub grow-spec : {M : Type 1} → statement M
 grow-spec = tie.close (tie.spec

@@ -4,7 +4,7 @@ use Rattle.bvh_split.proofs.point.Statement.{statement}
 use Rattle.bvh_split.proofs.point.Tie as tie
 
 returns : tie.Need-returns
-returns c = cc
+returns c = rw (c .centre .ensures)
 
 pub point-spec : {M : Type 1} → statement M
 point-spec = tie.close (tie.spec

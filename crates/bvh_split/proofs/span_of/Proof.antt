@@ -11,7 +11,8 @@ use Rattle.bvh_split.proofs.span_of.Statement.{statement}
 use Rattle.bvh_split.proofs.span_of.Tie as tie
 
 abbrev Inv-loop : tie.InvT-loop
-Inv-loop os t s₀ i₀ s i = (i ≤ length os) × (spanFrom s (members (tableBoxes t) (drop i os)) ≡ spanOf (tableBoxes t) os)
+Inv-loop os t s₀ i₀ s i =
+    (i ≤ length os) × (spanFrom s (members (tableBoxes t) (drop i os)) ≡ spanOf (tableBoxes t) os)
 
 abbrev μ-loop : tie.MeasureT-loop
 μ-loop os t s₀ i₀ s i = length os - i
@@ -21,7 +22,11 @@ unfolding spanOf
 loop-holds c = (search needs, rw (c .nowhere2 .ensures, c .before .nowhere .ensures))
 
 loop-again : tie.Need-loop-again Inv-loop μ-loop
-loop-again c = (omega arith, rw (c .grow .ensures, c .before .member .ensures) (sym (span-more _ _ _ _ (c .before .before .loop-test .taken)) ∙ c .before .before .before .loop .inv .1))
+loop-again c = (
+  omega arith,
+  rw (c .grow .ensures, c .before .member .ensures)
+      (sym (span-more _ _ _ _ (c .before .before .loop-test .taken)) ∙ c .before .before .before .loop .inv .1),
+)
 
 returns : tie.Need-returns Inv-loop μ-loop
 returns c = sym (span-none _ _ _ _ (c .loop-test .left)) ∙ c .before .loop .inv .1

@@ -11,7 +11,8 @@ returns c = simp (le-leb _ _ (c .if1 .taken))
 
 returns-2 : tie.Need-returns-2
 unfolding stops
-returns-2 c = simp (lt-leb _ _ (c .before .before .if1 .left)) (cc)
+returns-2 c =
+    simp (lt-leb _ _ (c .before .before .if1 .left)) (rw (c .axis .ensures, c .before .axis-of .ensures))
 
 pub stops-spec : {M : Type 1} → statement M
 stops-spec = tie.close (tie.spec

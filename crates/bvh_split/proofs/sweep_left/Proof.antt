@@ -29,7 +29,8 @@ loop-again : tie.Need-loop-again Inv-loop μ-loop
 loop-again c = let L = c .before .before .before .before .before .before .before .loop in
     let a = c .before .before .before .before .before .before .before .before .before .before .before .before .before .args in
     let σ = binned (a .b .now) (a .n .now) in
-    let h = box-turn σ (L .i) _ _ _ (c .before .before .before .merge .ensures) (c .before .before .before .before .box-at .ensures) (L .inv .3) in
+    let h = box-turn σ (L .i) _ _ _ (c .before .before .before .merge .ensures)
+    (c .before .before .before .before .box-at .ensures) (L .inv .3) in
     let n = count-turn σ (L .i) _ _ (c .before .plus .ensures) (L .inv .4) in (
       omega arith,
       search needs,

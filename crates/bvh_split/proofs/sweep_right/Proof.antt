@@ -14,7 +14,8 @@ use Rattle.bvh_split.proofs.sweep_right.Tie as tie
 abbrev Inv-loop : tie.InvT-loop
 Inv-loop b n areas counts s₀ i₀ s i =
     (i ≤ 11) ×
-    (areas ≡ listFrom (leftArea (binned b n)) 0 12 → counts ≡ listFrom (leftThrough (binned b n)) 0 12 → sweepFrom (binned b n) i s ≡ sweepFrom (binned b n) 11 noSweep)
+    (areas ≡ listFrom (leftArea (binned b n)) 0 12 → counts ≡ listFrom (leftThrough (binned b n)) 0 12
+    → sweepFrom (binned b n) i s ≡ sweepFrom (binned b n) 11 noSweep)
 
 abbrev μ-loop : tie.MeasureT-loop
 μ-loop b n areas counts s₀ i₀ s i = i
@@ -23,7 +24,16 @@ loop-holds : tie.Need-loop-holds Inv-loop μ-loop
 loop-holds c = (search needs, λ p q. rw (c .nowhere .ensures))
 
 loop-again : tie.Need-loop-again Inv-loop μ-loop
-loop-again c = (omega arith, λ p q. rw (c .choose .ensures, c .before .before .before .take-bin .ensures, c .before .before .before .before .before .box-at .ensures) (sym (sweep-more _ _ _ _ _ (c .before .before .before .before .before .before .before .loop-test .taken) (omega arith) p q) ∙ c .before .before .before .before .before .before .before .before .loop .inv .1 p q))
+loop-again c = (
+  omega arith,
+  λ p q. rw (
+    c .choose .ensures,
+    c .before .before .before .take-bin .ensures,
+    c .before .before .before .before .before .box-at .ensures,
+  )
+      (sym (sweep-more _ _ _ _ _ (c .before .before .before .before .before .before .before .loop-test .taken)
+      (omega arith) p q) ∙ c .before .before .before .before .before .before .before .before .loop .inv .1 p q),
+)
 
 returns : tie.Need-returns Inv-loop μ-loop
 unfolding splitBy

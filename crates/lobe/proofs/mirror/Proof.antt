@@ -6,7 +6,9 @@ use Rattle.lobe.proofs.mirror.Tie as tie
 
 returns : tie.Need-returns
 unfolding mirrorOf
-returns c = cc
+returns c =
+    let b1 = c .before in let b2 = b1 .before in let b3 = b2 .before in
+    rw (c .sub .ensures, b1 .scale .ensures, b2 .dot .ensures, b3 .neg .ensures)
 
 pub mirror-spec : {M : Type 1} → statement M
 mirror-spec = tie.close (tie.spec

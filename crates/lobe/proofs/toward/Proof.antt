@@ -6,7 +6,10 @@ use Rattle.lobe.proofs.toward.Tie as tie
 
 returns : tie.Need-returns
 unfolding towardOf
-returns c = rw (c .before .before .before .before .if1 .taken) (cc)
+returns c =
+    let b1 = c .before in let b2 = b1 .before in
+    rw (c .before .before .before .before .if1 .taken, c .closest .ensures, b1 .add .ensures)
+    (rw (b2 .scale .ensures))
 
 returns-2 : tie.Need-returns-2
 unfolding towardOf

@@ -6,7 +6,10 @@ use Rattle.lobe.proofs.view_of.Tie as tie
 
 returns : tie.Need-returns
 unfolding viewOf
-returns c = cc
+returns c =
+    let b1 = c .before in let b2 = b1 .before in let b4 = b2 .before .before in let b5 = b4 .before in
+    rw (c .diffuse-albedo .ensures, b1 .f0-of .ensures, b2 .max2 .ensures, b4 .max .ensures)
+    (rw (b5 .dot .ensures))
 
 pub view-of-spec : {M : Type 1} → statement M
 view-of-spec =

@@ -6,7 +6,7 @@ use Rattle.lobe.proofs.wide.Tie as tie
 
 returns : tie.Need-returns
 unfolding wideOf
-returns c = cc
+returns c = rw (c .clamp .ensures, c .before .max .ensures)
 
 pub wide-spec : {M : Type 1} → statement M
 wide-spec = tie.close (tie.spec

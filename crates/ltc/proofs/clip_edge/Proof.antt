@@ -21,7 +21,10 @@ returns-2 c =
 
 returns-3 : tie.Need-returns-3
 unfolding clipEdge
-returns-3 c = rw (c .before .before .before .before .if1 .left, c .before .before .if3 .taken) (cc)
+returns-3 c =
+    let b1 = c .before in
+    rw (c .before .before .before .before .if1 .left, c .before .before .if3 .taken, c .put4 .ensures)
+    (rw (b1 .crossing2 .ensures))
 
 returns-4 : tie.Need-returns-4
 unfolding clipEdge

@@ -6,7 +6,7 @@ use Rattle.ltc.proofs.crossing.Tie as tie
 
 returns : tie.Need-returns
 unfolding crossingOf
-returns c = cc
+returns c = rw (c .add .ensures, c .before .scale .ensures, c .before .before .sub .ensures)
 
 pub crossing-spec : {M : Type 1} → statement M
 crossing-spec = tie.close (tie.spec

@@ -6,7 +6,7 @@ use Rattle.ltc.proofs.frame.Tie as tie
 
 returns : tie.Need-returns
 unfolding frameOf
-returns c = cc
+returns c = rw (c .before .before .before .before .before .before .before .side .ensures)
 
 pub frame-spec : {M : Type 1} → statement M
 frame-spec = tie.close (tie.spec

@@ -7,7 +7,7 @@ use Rattle.ltc.proofs.on_sphere.Tie as tie
 
 returns : tie.Need-returns
 unfolding onSphere
-returns c = rw (sym (c .before .before .length .ensures), c .before .if1 .taken) (cc)
+returns c = rw (sym (c .before .before .length .ensures), c .before .if1 .taken, c .over .ensures)
 
 returns-2 : tie.Need-returns-2
 unfolding onSphere

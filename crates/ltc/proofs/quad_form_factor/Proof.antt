@@ -6,7 +6,7 @@ use Rattle.ltc.proofs.quad_form_factor.Tie as tie
 
 returns : tie.Need-returns
 unfolding formFactorOf
-returns c = cc
+returns c = rw (c .max .ensures, c .before .ring .ensures, c .before .before .clip-to-horizon .ensures)
 
 pub quad-form-factor-spec : {M : Type 1} → statement M
 quad-form-factor-spec =

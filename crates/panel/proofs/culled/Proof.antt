@@ -6,7 +6,7 @@ use Rattle.panel.proofs.culled.Tie as tie
 
 returns : tie.Need-returns
 unfolding culledOf
-returns c = cc
+returns c = rw (c .dot .ensures, c .before .neg .ensures, c .before .before .normalize .ensures)
 
 pub culled-spec : {M : Type 1} → statement M
 culled-spec = tie.close (tie.spec

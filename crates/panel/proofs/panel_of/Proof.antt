@@ -6,7 +6,7 @@ use Rattle.panel.proofs.panel_of.Tie as tie
 
 returns : tie.Need-returns
 unfolding panelOf
-returns c = cc
+returns c = rw (c .normal .ensures, c .before .center .ensures)
 
 pub panel-of-spec : {M : Type 1} → statement M
 panel-of-spec = tie.close (tie.spec

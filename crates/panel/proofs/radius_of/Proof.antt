@@ -6,7 +6,7 @@ use Rattle.panel.proofs.radius_of.Tie as tie
 
 returns : tie.Need-returns
 unfolding radiusOf
-returns c = cc
+returns c = rw (c .max .ensures, c .before .root .ensures, c .before .before .area .ensures)
 
 pub radius-of-spec : {M : Type 1} → statement M
 radius-of-spec = tie.close (tie.spec

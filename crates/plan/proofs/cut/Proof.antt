@@ -6,7 +6,7 @@ use Rattle.plan.proofs.cut.Tie as tie
 
 returns : tie.Need-returns
 unfolding cutBy
-returns c = cc
+returns c = rw (c .max .ensures, c .before .dist .ensures)
 
 pub cut-spec : {M : Type 1} → statement M
 cut-spec = tie.close (tie.spec

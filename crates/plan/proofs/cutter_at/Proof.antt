@@ -15,7 +15,8 @@ returns-2 c =
     let tables = c .before in
     let test = tables .before .before in
     let a = test .before .args in
-    let past = cutter-past (a .ws .now) (a .fs .now) (tables .before .-words .given .0) (tables .-floats .given .0) (a .r) (test .if1 .left) in
+    let past = cutter-past (a .ws .now) (a .fs .now) (tables .before .-words .given .0) (tables .-floats .given .0)
+    (a .r) (test .if1 .left) in
     rw (past, c .no-shape .ensures)
 
 pub cutter-at-spec : {M : Type 1} → statement M

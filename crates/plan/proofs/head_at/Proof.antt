@@ -13,7 +13,8 @@ returns-2 c =
     let tables = c .before in
     let test = tables .before .before in
     let a = test .before .args in
-    let past = head-past (a .ws .now) (a .fs .now) (tables .before .-words .given .0) (tables .-floats .given .0) (a .r) (test .if1 .left) in
+    let past = head-past (a .ws .now) (a .fs .now) (tables .before .-words .given .0) (tables .-floats .given .0)
+    (a .r) (test .if1 .left) in
     rw past (c .no-head .ensures)
 
 pub head-at-spec : {M : Type 1} → statement M

@@ -7,7 +7,7 @@ use Rattle.plan.proofs.hit_of.Tie as tie
 
 returns : tie.Need-returns
 unfolding pieceAt pieceDist hitOf
-returns c = cc
+returns c = rw (c .carve .ensures, c .before .dist .ensures, c .before .before .head-at .ensures)
 
 pub hit-of-spec : {M : Type 1} → statement M
 hit-of-spec = tie.close (tie.spec

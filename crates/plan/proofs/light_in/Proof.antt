@@ -6,7 +6,7 @@ use Rattle.plan.proofs.light_in.Tie as tie
 
 returns : tie.Need-returns
 unfolding lightIn
-returns c = cc
+returns c = rw (c .light-at .ensures)
 
 pub light-in-spec : {M : Type 1} → statement M
 light-in-spec =

@@ -6,7 +6,7 @@ use Rattle.plan.proofs.material_at.Tie as tie
 
 returns : tie.Need-returns
 unfolding materialAt
-returns c = cc
+returns c = rw (c .float-at2 .ensures, c .before .float-at .ensures, c .before .before .vec-at .ensures)
 
 pub material-at-spec : {M : Type 1} → statement M
 material-at-spec =

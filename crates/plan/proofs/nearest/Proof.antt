@@ -1,7 +1,7 @@
 -- `plan::nearest` meets its contract: the hit is the best of the pieces passed. Assumes nothing.
 use borrow.Author.Needs.{needs}
 use Prim.Native.Nat.{_≤_, _-_}
-use mathlib.Core.Path.{_≡_}
+use mathlib.Core.Path.{_≡_, sym}
 use native.Mathlib.Omega.{arith}
 use Rattle.plan.specs.Plan.{piecesFrom}
 use Rattle.plan.specs.Nearest.{nearest}
@@ -19,10 +19,16 @@ loop-holds : tie.Need-loop-holds Inv-loop μ-loop
 loop-holds c = let a = c .args in (search needs, nearest-none (a .ws .now) (a .fs .now) (a .r) (a .p) (a .best))
 
 loop-again : tie.Need-loop-again Inv-loop μ-loop
-loop-again c = (omega arith, rw nearest-more (cc))
+loop-again c = (
+  omega arith,
+  rw (nearest-more, c .closer .ensures, c .before .hit-of .ensures)
+      (rw (c .before .before .before .loop .inv .1)),
+)
 
 returns : tie.Need-returns Inv-loop μ-loop
-returns c = let e : c .before .loop .j ≡ c .before .before .args .n = omega arith in cc
+returns c =
+    let e : c .before .loop .j ≡ c .before .before .args .n = omega arith in
+    rw (sym e) (c .before .loop .inv .1)
 
 pub nearest-spec : {M : Type 1} → statement M
 nearest-spec =

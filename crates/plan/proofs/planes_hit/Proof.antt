@@ -6,7 +6,7 @@ use Rattle.plan.proofs.planes_hit.Tie as tie
 
 returns : tie.Need-returns
 unfolding planOf
-returns c = cc
+returns c = rw (c .nearest .ensures)
 
 pub planes-hit-spec : {M : Type 1} → statement M
 planes-hit-spec = tie.close (tie.spec

@@ -7,7 +7,7 @@ use Rattle.plan.proofs.query_linear.Tie as tie
 
 returns : tie.Need-returns
 unfolding planOf listHit
-returns c = cc
+returns c = rw (c .nearest .ensures)
 
 pub query-linear-spec : {M : Type 1} → statement M
 query-linear-spec = tie.close (tie.spec

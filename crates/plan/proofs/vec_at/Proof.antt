@@ -6,7 +6,7 @@ use Rattle.plan.proofs.vec_at.Statement.{statement}
 use Rattle.plan.proofs.vec_at.Tie as tie
 
 returns : tie.Need-returns
-returns c = cc
+returns c = rw (c .float-in3 .ensures, c .before .float-in2 .ensures, c .before .before .float-in .ensures)
 
 returns-2 : tie.Need-returns-2
 returns-2 c =

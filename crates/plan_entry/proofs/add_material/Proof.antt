@@ -12,7 +12,11 @@ returns c =
     let n = c .before .before .before .before in
     let m = n .before .before in
     enters {m = n .record-number .result}
-    (rw (← (m .before .before .word-in .ensures), ← (m .before .material-at .ensures), ← (m .material-number .ensures))
+    (rw (
+      ← (m .before .before .word-in .ensures),
+      ← (m .before .material-at .ensures),
+      ← (m .material-number .ensures),
+    )
     (n .record-number .ensures))
     (rw (← (m .before .before .word-in .ensures)) (c .added-of .ensures))
     (rw (eq-eqb _ 0 (c .before .before .before .if1 .taken))
@@ -24,7 +28,11 @@ returns-2 c =
     let n = c .before .before in
     let m = n .before .before in
     enters {m = n .record-number .result}
-    (rw (← (m .before .before .word-in .ensures), ← (m .before .material-at .ensures), ← (m .material-number .ensures))
+    (rw (
+      ← (m .before .before .word-in .ensures),
+      ← (m .before .material-at .ensures),
+      ← (m .material-number .ensures),
+    )
     (n .record-number .ensures))
     (rw (← (m .before .before .word-in .ensures)) (c .added-of2 .ensures))
     (rw (ne-eqb _ 0 (c .before .if1 .left)))

@@ -6,7 +6,9 @@ use Rattle.plan_entry.proofs.args_number.Tie as tie
 
 returns : tie.Need-returns
 unfolding argsNumber
-returns c = cc
+returns c =
+    let b1 = c .before in let b2 = b1 .before in let b4 = b2 .before .before in
+    rw (c .lower .ensures, b1 .arg-cuts-number .ensures, b2 .own-number .ensures, b4 .head-at .ensures)
 
 pub args-number-spec : {M : Type 1} → statement M
 args-number-spec =

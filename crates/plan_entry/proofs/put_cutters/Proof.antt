@@ -1,7 +1,7 @@
 -- `plan_entry::put_cutters` meets its contract: the table has the cutters passed. Assumes nothing.
 use borrow.Author.Needs.{needs}
 use Prim.Native.Nat.{_≤_, _-_}
-use mathlib.Core.Path.{_≡_}
+use mathlib.Core.Path.{_≡_, sym}
 use native.Mathlib.Omega.{arith}
 use Rattle.plan_entry.specs.Entry.{putCutters}
 use Rattle.plan_entry.proofs.Lists.{put-none, put-more}
@@ -23,7 +23,9 @@ loop-again c =
     (omega arith, rw (put-more, c .put-row .ensures, c .before .before .before .cutter-words .ensures, l .inv .1))
 
 returns : tie.Need-returns Inv-loop μ-loop
-returns c = let e : c .before .loop .j ≡ c .before .before .args .n = omega arith in cc
+returns c =
+    let e : c .before .loop .j ≡ c .before .before .args .n = omega arith in
+    rw (sym e) (c .before .loop .inv .1)
 
 pub put-cutters-spec : {M : Type 1} → statement M
 put-cutters-spec =

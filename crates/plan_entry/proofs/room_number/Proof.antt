@@ -6,7 +6,9 @@ use Rattle.plan_entry.proofs.room_number.Tie as tie
 
 returns : tie.Need-returns
 unfolding roomNumber
-returns c = cc
+returns c =
+    let b1 = c .before in let b2 = b1 .before in let b3 = b2 .before in
+    rw (c .lower .ensures, b1 .unless .ensures, b2 .both .ensures, b3 .places-left .ensures)
 
 pub room-number-spec : {M : Type 1} → statement M
 room-number-spec =

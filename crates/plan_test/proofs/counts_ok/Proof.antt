@@ -8,7 +8,7 @@ use Rattle.plan_test.proofs.counts_ok.Tie as tie
 returns : tie.Need-returns
 returns c =
     let w = c .before .before .before .before .before .before .before .args .ws .now in
-    rw (counts-words w (seen w)) (cc)
+    rw (counts-words w (seen w), c .both3 .ensures, c .before .both2 .ensures, c .before .before .both .ensures)
 
 pub counts-ok-spec : {M : Type 1} → statement M
 counts-ok-spec =

@@ -1,7 +1,7 @@
 -- `plan_test::cuts_number` meets its contract: the lowest so far is that of the cutters passed. Assumes nothing.
 use borrow.Author.Needs.{needs}
 use Prim.Native.Nat.{_+_, _≤_, _-_}
-use mathlib.Core.Path.{_≡_}
+use mathlib.Core.Path.{_≡_, sym}
 use native.Mathlib.Omega.{arith}
 use Rattle.words.specs.Lists.{listFrom}
 use Rattle.refusals.specs.Refusals.{lowestOf}
@@ -25,11 +25,19 @@ loop-holds c =
     (search needs, lowest-start cutterNumber (cutterAt (a .ws .now) (a .fs .now)) (a .base + a .place))
 
 loop-again : tie.Need-loop-again Inv-loop μ-loop
-loop-again c = (omega arith, rw lowest-more (cc))
+loop-again c =
+    let a = c .before .before in
+    let l = a .before .before in (
+      omega arith,
+      rw (lowest-more, c .lower .ensures, c .before .cutter-number .ensures, a .cutter-at .ensures)
+          (rw (l .loop .inv .1)),
+    )
 
 returns : tie.Need-returns Inv-loop μ-loop
 unfolding cutsNumber cutsBy
-returns c = let e : c .before .loop .j ≡ c .before .before .args .n = omega arith in cc
+returns c =
+    let e : c .before .loop .j ≡ c .before .before .args .n = omega arith in
+    rw (sym e) (c .before .loop .inv .1)
 
 pub cuts-number-spec : {M : Type 1} → statement M
 cuts-number-spec =

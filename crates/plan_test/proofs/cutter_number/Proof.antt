@@ -6,7 +6,7 @@ use Rattle.plan_test.proofs.cutter_number.Tie as tie
 
 returns : tie.Need-returns
 unfolding cutterNumber
-returns c = cc
+returns c = rw (c .prim-number .ensures)
 
 pub cutter-number-spec : {M : Type 1} → statement M
 cutter-number-spec = tie.close (tie.spec

@@ -20,7 +20,8 @@ unfolding dark
 returns-3 c =
     let d = c .before .before in
     let b = d .before .before in
-    rw (sym (b .before .no-length .ensures), b .if1 .left, sym (d .before .no-length2 .ensures), d .if2 .left) (cc)
+    rw (sym (b .before .no-length .ensures), b .if1 .left, sym (d .before .no-length2 .ensures), d .if2 .left)
+    (rw (c .length .ensures, c .before .cross .ensures))
 
 pub dark-spec : {M : Type 1} → statement M
 dark-spec =

@@ -8,7 +8,8 @@ use Rattle.plan_test.proofs.lit_number.Tie as tie
 returns : tie.Need-returns
 returns c =
     let i = c .before .before .before .before in
-    rw (lit-words, sym (i .before .counts-ok .ensures), i .if1 .taken) (cc)
+    rw (lit-words, sym (i .before .counts-ok .ensures), i .if1 .taken)
+    (rw (c .lower .ensures, c .before .lights-number .ensures, c .before .before .before .judge-solids .ensures))
 
 returns-2 : tie.Need-returns-2
 returns-2 c = rw (lit-words, sym (c .before .counts-ok .ensures), c .if1 .left)

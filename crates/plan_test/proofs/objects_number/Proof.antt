@@ -8,7 +8,9 @@ use Rattle.plan_test.proofs.objects_number.Tie as tie
 returns : tie.Need-returns
 returns c =
     let i = c .before .before .before .before .before .before in
-    rw (objects-words, sym (i .before .counts-ok .ensures), i .if1 .taken) (cc)
+    rw (objects-words, sym (i .before .counts-ok .ensures), i .if1 .taken)
+    (rw (c .lower .ensures, c .before .placed-cuts .ensures, c .before .before .both .ensures)
+    (rw (c .before .before .before .before .tally-rows .ensures)))
 
 returns-2 : tie.Need-returns-2
 returns-2 c = rw (objects-words, sym (c .before .counts-ok .ensures), c .if1 .left)

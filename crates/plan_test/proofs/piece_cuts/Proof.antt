@@ -7,7 +7,7 @@ use Rattle.plan_test.proofs.piece_cuts.Tie as tie
 
 returns : tie.Need-returns
 unfolding pieceCuts pieceAt
-returns c = cc
+returns c = rw (c .cuts-number .ensures, c .before .head-at .ensures)
 
 pub piece-cuts-spec : {M : Type 1} → statement M
 piece-cuts-spec = tie.close (tie.spec

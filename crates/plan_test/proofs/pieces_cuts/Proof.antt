@@ -1,7 +1,7 @@
 -- `plan_test::pieces_cuts` meets its contract: the lowest so far is that of the pieces passed. Assumes nothing.
 use borrow.Author.Needs.{needs}
 use Prim.Native.Nat.{_≤_, _-_}
-use mathlib.Core.Path.{_≡_}
+use mathlib.Core.Path.{_≡_, sym}
 use native.Mathlib.Omega.{arith}
 use Rattle.words.specs.Lists.{listFrom}
 use Rattle.refusals.specs.Refusals.{lowestOf}
@@ -21,11 +21,15 @@ loop-holds : tie.Need-loop-holds Inv-loop μ-loop
 loop-holds c = let a = c .args in (search needs, lowest-start pieceCuts (pieceAt (a .ws .now) (a .fs .now)) (a .r))
 
 loop-again : tie.Need-loop-again Inv-loop μ-loop
-loop-again c = (omega arith, rw lowest-more (cc))
+loop-again c =
+    let l = c .before .before .before in
+    (omega arith, rw (lowest-more, c .lower .ensures, c .before .piece-cuts .ensures, l .loop .inv .1))
 
 returns : tie.Need-returns Inv-loop μ-loop
 unfolding piecesFrom
-returns c = let e : c .before .loop .j ≡ c .before .before .args .n = omega arith in cc
+returns c =
+    let e : c .before .loop .j ≡ c .before .before .args .n = omega arith in
+    rw (sym e) (c .before .loop .inv .1)
 
 pub pieces-cuts-spec : {M : Type 1} → statement M
 pieces-cuts-spec =

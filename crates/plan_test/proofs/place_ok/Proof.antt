@@ -6,7 +6,7 @@ use Rattle.plan_test.proofs.place_ok.Tie as tie
 
 returns : tie.Need-returns
 unfolding placeOk
-returns c = cc
+returns c = rw (c .both .ensures, c .before .place-right .ensures)
 
 pub place-ok-spec : {M : Type 1} → statement M
 place-ok-spec = tie.close (tie.spec

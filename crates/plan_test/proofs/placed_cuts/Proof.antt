@@ -4,7 +4,7 @@ use Rattle.plan_test.proofs.placed_cuts.Statement.{statement}
 use Rattle.plan_test.proofs.placed_cuts.Tie as tie
 
 returns : tie.Need-returns
-returns c = rw (c .before .if1 .taken) (cc)
+returns c = rw (c .before .if1 .taken, c .pieces-cuts .ensures)
 
 pub placed-cuts-spec : {M : Type 1} → statement M
 placed-cuts-spec = tie.close (tie.spec

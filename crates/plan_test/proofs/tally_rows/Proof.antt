@@ -2,7 +2,7 @@
 -- words wraps. Assumes nothing.
 use borrow.Author.Needs.{needs}
 use Prim.Native.Nat.{_*_, _≤_, _-_}
-use mathlib.Core.Path.{_≡_}
+use mathlib.Core.Path.{_≡_, sym}
 use native.Mathlib.Omega.{arith}
 use Rattle.refusals.specs.Refusals.{lowestOf}
 use Rattle.plan.specs.Sections as sections
@@ -47,15 +47,31 @@ loop-again c =
     let l = c .before .before .before .before .before .before .before in (
       search needs,
       omega arith,
-      rw own-more (cc),
-      rw placed-more (cc),
-      rw used-more (cc),
+      rw (
+        own-more,
+        c .before .before .before .lower .ensures,
+        c .before .before .before .before .own-number .ensures,
+        c .before .before .before .before .before .head-at .ensures,
+        l .loop .inv .2,
+      ),
+      rw (
+        placed-more,
+        c .before .both .ensures,
+        c .before .before .place-ok .ensures,
+        c .before .before .before .before .before .head-at .ensures,
+        l .loop .inv .3,
+        l .loop .inv .4,
+      ),
+      rw (used-more, c .before .before .before .before .before .head-at .ensures, l .loop .inv .4),
       sum-words (l .loop .used) _ (l .loop .j) (search needs) (search needs),
     )
 
 returns : tie.Need-returns Inv-loop μ-loop
 unfolding tallyOf
-returns c = let e : c .before .loop .j ≡ c .before .before .before .args .n = omega arith in cc
+returns c =
+    let i = c .before .loop .inv in
+    let e : c .before .loop .j ≡ c .before .before .before .args .n = omega arith in
+    rw (sym e, sym (i .0), i .2, i .3, i .4)
 
 pub tally-rows-spec : {M : Type 1} → statement M
 tally-rows-spec =

@@ -6,7 +6,7 @@ use Rattle.quad.proofs.within.Tie as tie
 
 returns : tie.Need-returns
 unfolding within
-returns c = cc
+returns c = rw (c .between .ensures, c .before .dot2 .ensures, c .before .before .dot .ensures)
 
 pub within-spec : {M : Type 1} → statement M
 within-spec = tie.close (tie.spec

@@ -6,7 +6,7 @@ use Rattle.reach.proofs.site_of.Tie as tie
 
 returns : tie.Need-returns
 unfolding siteOf
-returns c = cc
+returns c = rw (c .frame .ensures)
 
 pub site-of-spec : {M : Type 1} → statement M
 site-of-spec = tie.close (tie.spec

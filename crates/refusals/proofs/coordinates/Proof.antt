@@ -6,7 +6,7 @@ use Rattle.refusals.proofs.coordinates.Tie as tie
 
 returns : tie.Need-returns
 unfolding coordinates
-returns c = cc
+returns c = rw (c .within .ensures)
 
 pub coordinates-spec : {M : Type 1} → statement M
 coordinates-spec = tie.close (tie.spec

@@ -18,7 +18,7 @@ returns-3 c = rw (c .before .s3 .given .1)
 
 returns-4 : tie.Need-returns-4
 unfolding flat
-returns-4 c = rw (c .before .before .before .s4 .given .1) (cc)
+returns-4 c = rw (c .before .before .before .s4 .given .1, c .no-length .ensures, c .before .sub .ensures)
 
 returns-5 : tie.Need-returns-5
 unfolding flat

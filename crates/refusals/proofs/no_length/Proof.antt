@@ -6,7 +6,7 @@ use Rattle.refusals.proofs.no_length.Tie as tie
 
 returns : tie.Need-returns
 unfolding noLength
-returns c = cc
+returns c = rw (c .dot .ensures)
 
 pub no-length-spec : {M : Type 1} → statement M
 no-length-spec = tie.close (tie.spec

@@ -6,7 +6,7 @@ use Rattle.refusals.proofs.radius.Tie as tie
 
 returns : tie.Need-returns
 unfolding radius
-returns c = cc
+returns c = rw (c .up-to .ensures)
 
 pub radius-spec : {M : Type 1} → statement M
 radius-spec = tie.close (tie.spec

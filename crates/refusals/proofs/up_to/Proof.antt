@@ -6,7 +6,7 @@ use Rattle.refusals.proofs.up_to.Tie as tie
 
 returns : tie.Need-returns
 unfolding upTo
-returns c = cc
+returns c = rw (c .between .ensures)
 
 pub up-to-spec : {M : Type 1} → statement M
 up-to-spec = tie.close (tie.spec

@@ -13,7 +13,9 @@ held : (c : tie.Start) → T (fits binary32 (c .args .x))
 held c = subst T (sym (c .good .0 .1)) tt
 
 float-to-float-result : tie.Need-float-to-float-result
-float-to-float-result c = cast-ok (c .before .before .args .x) (held (c .before .before)) (equal-no-nan (c .before .before .args .x) (c .before .if1 .taken))
+float-to-float-result c =
+    cast-ok (c .before .before .args .x) (held (c .before .before))
+    (equal-no-nan (c .before .before .args .x) (c .before .if1 .taken))
 
 returns-2 : tie.Need-returns-2
 returns-2 c = at-least-nan (c .before .args .x) (c .before .args .t) (c .if1 .left)

@@ -12,7 +12,8 @@ spare n g h k =
     div-lt-iff-lt-mul p .1 (lt-of-lt-of-le h (mul-le-mul-left 281474976710656 k))
 
 add-result : tie.Need-add-result
-add-result c = omega (arith, spare (c .before .before .args .n) (c .before .before .args .g) (omega arith) (omega arith))
+add-result c =
+    omega (arith, spare (c .before .before .args .n) (c .before .before .args .g) (omega arith) (omega arith))
 
 pub mended-spec : {M : Type 1} → statement M
 mended-spec = tie.close (tie.spec

@@ -20,7 +20,8 @@ float-from-bits-result c = no-nan-bits (c .root-bits .result) (c .root-bits .ens
 
 returns : tie.Need-returns
 returns c =
-    at-plain (c .before .before .before .args .x) (c .root-bits .result) (held (c .before .before .before)) (c .before .before .if1 .taken) (c .before .if2 .taken)
+    at-plain (c .before .before .before .args .x) (c .root-bits .result) (held (c .before .before .before))
+    (c .before .before .if1 .taken) (c .before .if2 .taken)
     (c .root-bits .ensures .1 (c .before .if2 .taken))
 
 returns-2 : tie.Need-returns-2

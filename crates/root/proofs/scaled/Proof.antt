@@ -6,16 +6,42 @@ use Rattle.root.proofs.scaled.Statement.{statement}
 use Rattle.root.proofs.scaled.Tie as tie
 
 mul-result : tie.Need-mul-result
-mul-result c = omega (arith, few (c .before .before .before .args .b) (c .before .before .digits .result) (c .before .exponent .result) (c .before .before .digits .ensures) (c .before .exponent .ensures))
+mul-result c =
+    omega (
+      arith,
+      few (c .before .before .before .args .b) (c .before .before .digits .result)
+          (c .before .exponent .result) (c .before .before .digits .ensures) (c .before .exponent .ensures),
+    )
 
 mul-result-2 : tie.Need-mul-result-2
-mul-result-2 c = omega (arith, few (c .before .before .before .args .b) (c .before .before .digits .result) (c .before .exponent .result) (c .before .before .digits .ensures) (c .before .exponent .ensures))
+mul-result-2 c =
+    omega (
+      arith,
+      few (c .before .before .before .args .b) (c .before .before .digits .result)
+          (c .before .exponent .result) (c .before .before .digits .ensures) (c .before .exponent .ensures),
+    )
 
 returns : tie.Need-returns
-returns c = (omega (arith, few (c .before .before .before .args .b) (c .before .before .digits .result) (c .before .exponent .result) (c .before .before .digits .ensures) (c .before .exponent .ensures)), start-even (c .before .before .before .args .b) (c .before .before .digits .result) (c .before .exponent .result) (c .before .before .digits .ensures) (c .before .exponent .ensures) (c .if1 .taken))
+returns c = (
+  omega (
+    arith,
+    few (c .before .before .before .args .b) (c .before .before .digits .result)
+        (c .before .exponent .result) (c .before .before .digits .ensures) (c .before .exponent .ensures),
+  ),
+  start-even (c .before .before .before .args .b) (c .before .before .digits .result) (c .before .exponent .result)
+      (c .before .before .digits .ensures) (c .before .exponent .ensures) (c .if1 .taken),
+)
 
 returns-2 : tie.Need-returns-2
-returns-2 c = (omega (arith, few (c .before .before .before .args .b) (c .before .before .digits .result) (c .before .exponent .result) (c .before .before .digits .ensures) (c .before .exponent .ensures)), start-odd (c .before .before .before .args .b) (c .before .before .digits .result) (c .before .exponent .result) (c .before .before .digits .ensures) (c .before .exponent .ensures) (c .if1 .left))
+returns-2 c = (
+  omega (
+    arith,
+    few (c .before .before .before .args .b) (c .before .before .digits .result)
+        (c .before .exponent .result) (c .before .before .digits .ensures) (c .before .exponent .ensures),
+  ),
+  start-odd (c .before .before .before .args .b) (c .before .before .digits .result) (c .before .exponent .result)
+      (c .before .before .digits .ensures) (c .before .exponent .ensures) (c .if1 .left),
+)
 
 pub scaled-spec : {M : Type 1} → statement M
 scaled-spec =

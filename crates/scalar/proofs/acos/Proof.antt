@@ -6,11 +6,11 @@ use Rattle.scalar.proofs.acos.Tie as tie
 
 returns : tie.Need-returns
 unfolding acosOf
-returns c = rw (c .before .if1 .taken) (cc)
+returns c = rw (c .before .if1 .taken, c .side .ensures)
 
 returns-2 : tie.Need-returns-2
 unfolding acosOf
-returns-2 c = rw (c .before .if1 .left) (cc)
+returns-2 c = rw (c .before .if1 .left, c .side2 .ensures)
 
 pub acos-spec : {M : Type 1} → statement M
 acos-spec = tie.close (tie.spec

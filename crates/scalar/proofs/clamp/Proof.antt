@@ -6,7 +6,7 @@ use Rattle.scalar.proofs.clamp.Tie as tie
 
 returns : tie.Need-returns
 unfolding clampOf
-returns c = cc
+returns c = rw (c .at-most .ensures, c .before .at-least .ensures)
 
 pub clamp-spec : {M : Type 1} → statement M
 clamp-spec = tie.close (tie.spec

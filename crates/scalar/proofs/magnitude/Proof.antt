@@ -6,7 +6,7 @@ use Rattle.scalar.proofs.magnitude.Tie as tie
 
 returns : tie.Need-returns
 unfolding magnitude
-returns c = cc
+returns c = rw (c .between .ensures)
 
 pub magnitude-spec : {M : Type 1} → statement M
 magnitude-spec = tie.close (tie.spec

@@ -6,7 +6,7 @@ use Rattle.scalar.proofs.side.Tie as tie
 
 returns : tie.Need-returns
 unfolding side
-returns c = cc
+returns c = rw (c .poly .ensures, c .before .root .ensures)
 
 pub side-spec : {M : Type 1} → statement M
 side-spec = tie.close (tie.spec

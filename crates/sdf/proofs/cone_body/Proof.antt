@@ -6,7 +6,9 @@ use Rattle.sdf.proofs.cone_body.Tie as tie
 
 returns : tie.Need-returns
 unfolding coneBody
-returns c = cc
+returns c =
+    let b1 = c .before in let b2 = b1 .before in let b3 = b2 .before in let b4 = b3 .before in
+    rw (c .cone-at .ensures, b1 .root .ensures, b2 .max .ensures, b3 .dot2 .ensures, b4 .dot .ensures)
 
 pub cone-body-spec : {M : Type 1} → statement M
 cone-body-spec =

@@ -6,7 +6,7 @@ use Rattle.sdf.proofs.cone_foot.Tie as tie
 
 returns : tie.Need-returns
 unfolding coneFoot
-returns c = cc
+returns c = rw (c .clamp .ensures)
 
 pub cone-foot-spec : {M : Type 1} → statement M
 cone-foot-spec = tie.close (tie.spec

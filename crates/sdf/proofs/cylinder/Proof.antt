@@ -7,11 +7,17 @@ use Rattle.sdf.proofs.cylinder.Tie as tie
 
 returns : tie.Need-returns
 unfolding cylinder
-returns c = rw (sym (c .before .before .before .sub .ensures), sym (c .before .before .dot .ensures), c .before .if1 .taken) (cc)
+returns c =
+    rw (sym (c .before .before .before .sub .ensures), sym (c .before .before .dot .ensures))
+    (rw (c .before .if1 .taken, c .sphere .ensures))
 
 returns-2 : tie.Need-returns-2
 unfolding cylinder
-returns-2 c = rw (sym (c .before .before .before .before .sub .ensures), sym (c .before .before .before .dot .ensures), c .before .before .if1 .left) (cc)
+returns-2 c =
+    let b1 = c .before in
+    rw (sym (c .before .before .before .before .sub .ensures))
+    (rw (sym (c .before .before .before .dot .ensures), c .before .before .if1 .left)
+    (rw (c .cylinder-body .ensures, b1 .sub2 .ensures)))
 
 pub cylinder-spec : {M : Type 1} → statement M
 cylinder-spec =

@@ -6,7 +6,7 @@ use Rattle.sdf.proofs.plane.Tie as tie
 
 returns : tie.Need-returns
 unfolding plane
-returns c = cc
+returns c = rw (c .dot .ensures)
 
 pub plane-spec : {M : Type 1} → statement M
 plane-spec = tie.close (tie.spec

@@ -6,7 +6,7 @@ use Rattle.sdf.proofs.sphere.Tie as tie
 
 returns : tie.Need-returns
 unfolding sphere
-returns c = cc
+returns c = rw (c .length .ensures, c .before .sub .ensures)
 
 pub sphere-spec : {M : Type 1} → statement M
 sphere-spec = tie.close (tie.spec

@@ -6,7 +6,7 @@ use Rattle.sdf.proofs.spread.Tie as tie
 
 returns : tie.Need-returns
 unfolding spread
-returns c = cc
+returns c = rw (c .add .ensures, c .before .sub .ensures)
 
 pub spread-spec : {M : Type 1} → statement M
 spread-spec = tie.close (tie.spec

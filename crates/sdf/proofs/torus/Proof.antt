@@ -6,7 +6,9 @@ use Rattle.sdf.proofs.torus.Tie as tie
 
 returns : tie.Need-returns
 unfolding torus
-returns c = cc
+returns c =
+    let b2 = c .before .before in let b5 = b2 .before .before .before in
+    rw (c .root2 .ensures, b2 .root .ensures, b5 .sub .ensures)
 
 pub torus-spec : {M : Type 1} → statement M
 torus-spec = tie.close (tie.spec

@@ -14,7 +14,8 @@ use Rattle.shade.proofs.panels_number.Statement.{statement}
 use Rattle.shade.proofs.panels_number.Tie as tie
 
 abbrev Inv-loop : tie.InvT-loop
-Inv-loop ws fs p n number₀ j₀ number j = (j ≤ n) × (number ≡ lowestOf (atLightNumber p) (listFrom (lightIn fs) 0 j))
+Inv-loop ws fs p n number₀ j₀ number j =
+    (j ≤ n) × (number ≡ lowestOf (atLightNumber p) (listFrom (lightIn fs) 0 j))
 
 abbrev μ-loop : tie.MeasureT-loop
 μ-loop ws fs p n number₀ j₀ number j = n - j
@@ -23,7 +24,11 @@ loop-holds : tie.Need-loop-holds Inv-loop μ-loop
 loop-holds c = let a = c .before .args in (search needs, lowest-start (atLightNumber (a .p)) (lightIn (a .fs .now)) 0)
 
 loop-again : tie.Need-loop-again Inv-loop μ-loop
-loop-again c = (omega arith, rw (lowest-more, zero-add) (cc))
+loop-again c = (
+  omega arith,
+  rw (lowest-more, zero-add, c .lower .ensures, c .before .at-light-number .ensures)
+      (rw (c .before .before .light-in .ensures, c .before .before .before .before .loop .inv .1)),
+)
 
 returns : tie.Need-returns Inv-loop μ-loop
 unfolding panelsNumber

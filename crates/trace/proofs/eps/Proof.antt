@@ -6,7 +6,7 @@ use Rattle.trace.proofs.eps.Tie as tie
 
 returns : tie.Need-returns
 unfolding epsOf
-returns c = cc
+returns c = rw (c .max .ensures)
 
 pub eps-spec : {M : Type 1} → statement M
 eps-spec = tie.close (tie.spec (λ c κs. search needs) returns)

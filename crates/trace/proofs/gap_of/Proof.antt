@@ -6,7 +6,7 @@ use Rattle.trace.proofs.gap_of.Tie as tie
 
 returns : tie.Need-returns
 unfolding gapOf
-returns c = rw (c .before .before .if1 .taken) (cc)
+returns c = rw (c .before .before .if1 .taken, c .root .ensures, c .before .max .ensures)
 
 returns-2 : tie.Need-returns-2
 unfolding gapOf

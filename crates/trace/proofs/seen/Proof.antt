@@ -6,7 +6,7 @@ use Rattle.trace.proofs.seen.Tie as tie
 
 returns : tie.Need-returns
 unfolding seenOf
-returns c = cc
+returns c = rw (c .clamp .ensures)
 
 pub seen-spec : {M : Type 1} → statement M
 seen-spec = tie.close (tie.spec (λ c κs. search needs) returns)

@@ -14,7 +14,8 @@ use Rattle.trace.proofs.soft_shadow.Tie as tie
 abbrev Inv-loop : tie.InvT-loop
 Inv-loop tree ws fs ro rd tmin tmax k c₀ steps₀ c steps =
     (steps ≤ 96)
-    × (coneMarch (fieldBy tree ws fs) ro rd tmax k (96 - steps) c steps ≡ shadowOf (fieldBy tree ws fs) ro rd tmin tmax k)
+    × (coneMarch (fieldBy tree ws fs) ro rd tmax k (96 - steps) c steps ≡ shadowOf
+    (fieldBy tree ws fs) ro rd tmin tmax k)
 
 abbrev μ-loop : tie.MeasureT-loop
 μ-loop tree ws fs ro rd tmin tmax k c₀ steps₀ c steps = 96 - steps

@@ -6,7 +6,7 @@ use Rattle.viewer.proofs.material_in.Tie as tie
 
 returns : tie.Need-returns
 unfolding givenMaterial
-returns c = cc
+returns c = rw (c .float-at2 .ensures, c .before .float-at .ensures, c .before .before .vec-at .ensures)
 
 pub material-in-spec : {M : Type 1} → statement M
 material-in-spec =

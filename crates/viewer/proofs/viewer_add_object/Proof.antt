@@ -21,9 +21,18 @@ returns c =
     let e = a .add-piece .ensures in
     let bytes = length (l .before .before .before .before .before .before .before .before .before .before .args .args .now) in
     record {
-      piece = entry-sent (λ b w f. pieceEntry b false w f bytes) (countOf objects) (pieceLeft false) _ _ _ _ _ _ _ _ _ _ _ _ (l .before .load-plan .ensures) (l .tree-tables-before .ensures) e (p .store-plan .ensures) (s .send .ensures);
-      nodes-is = entry-clears (λ b w f. pieceEntry b false w f bytes) (countOf objects) (pieceLeft false) _ _ _ _ _ _ _ _ _ _ (l .before .load-plan .ensures) (l .tree-tables-before .ensures) e (n .clear .ensures);
-      order-is = entry-clears (λ b w f. pieceEntry b false w f bytes) (countOf objects) (pieceLeft false) _ _ _ _ _ _ _ _ _ _ (l .before .load-plan .ensures) (l .tree-tables-before .ensures) e (o .clear2 .ensures);
+      piece =
+          entry-sent (λ b w f. pieceEntry b false w f bytes) (countOf objects)
+          (pieceLeft false) _ _ _ _ _ _ _ _ _ _ _ _ (l .before .load-plan .ensures) (l .tree-tables-before .ensures) e
+          (p .store-plan .ensures) (s .send .ensures);
+      nodes-is =
+          entry-clears (λ b w f. pieceEntry b false w f bytes) (countOf objects)
+          (pieceLeft false) _ _ _ _ _ _ _ _ _ _ (l .before .load-plan .ensures) (l .tree-tables-before .ensures) e
+          (n .clear .ensures);
+      order-is =
+          entry-clears (λ b w f. pieceEntry b false w f bytes) (countOf objects)
+          (pieceLeft false) _ _ _ _ _ _ _ _ _ _ (l .before .load-plan .ensures) (l .tree-tables-before .ensures) e
+          (o .clear2 .ensures);
     }
 
 pub viewer-add-object-spec : {M : Type 1} → statement M

@@ -16,7 +16,9 @@ returns c =
     let b = n .before .before .before in
     let l = b .before .before .before .before .before .before in
     let t = l .before .load-plan .ensures in
-    let none = ap (λ (x : List ℕ). planTable 0 (l .before .before .before .before .before .before .before .before .before .args .plan .now) x) (l .before .before .before .before .none .ensures) in
+    let none = ap (λ (x : List ℕ). planTable 0
+    (l .before .before .before .before .before .before .before .before .before .args .plan .now) x)
+    (l .before .before .before .before .none .ensures) in
     build-sent _ _ _ _ _ _ _ _ _ _ _ _ _ _ _ _ (t .0 ∙ none, t .1) (l .tree-tables-before .ensures)
     (b .before .build .ensures) (b .build-stores .ensures) (n .store-nodes .ensures) (o .store-order .ensures)
     (s .send .ensures)

@@ -12,7 +12,12 @@ returns c =
     let r = s .before .before in
     let l = r .before .before in
     sent-as
-    (rw (r .diffuse-albedo .ensures, r .before .material-in .ensures, l .lent .ensures, l .before .args-before .ensures))
+    (rw (
+      r .diffuse-albedo .ensures,
+      r .before .material-in .ensures,
+      l .lent .ensures,
+      l .before .args-before .ensures,
+    ))
     (s .send .ensures)
 
 pub viewer-diffuse-albedo-spec : {M : Type 1} → statement M

@@ -17,8 +17,10 @@ returns c =
     let l = b .before .before .before .before .before in
     let z = l .before .before .before .before .before .before .before .before .before .before .before .before .before .args in
     let t = l .before .before .before .load-ask .ensures in
-    let none = ap (λ (x : List ℕ). askTable 0 (z .plan .now) (z .given .now) (z .ranks .now) 1 x) (l .before .before .before .before .before .before .none .ensures) in
-    let number = lower-as _ _ _ _ _ (l .lower .ensures) (l .before .before .tree-tables-before .ensures) (l .before .tables-before .ensures) in
+    let none = ap (λ (x : List ℕ). askTable 0 (z .plan .now) (z .given .now) (z .ranks .now) 1 x)
+    (l .before .before .before .before .before .before .none .ensures) in
+    let number = lower-as _ _ _ _ _ (l .lower .ensures) (l .before .before .tree-tables-before .ensures)
+    (l .before .tables-before .ensures) in
     offer-sent _ _ _ _ _ _ _ _ _ _ _ _ _ _ _ (t .0 ∙ none, t .1) number (b .offer .ensures) (n .store-nodes .ensures)
     (o .store-order .ensures) (s .send .ensures)
 

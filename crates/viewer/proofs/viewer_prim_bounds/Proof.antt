@@ -14,7 +14,16 @@ returns c =
     let x = y .before .before in
     let l = x .before .before in
     sent-as
-    (rw (r .prim-bounds .ensures, r .before .float-at2 .ensures, y .float-at .ensures, y .before .vec-at2 .ensures, x .vec-at .ensures, x .before .word .ensures, l .lent .ensures, l .before .args-before .ensures))
+    (rw (
+      r .prim-bounds .ensures,
+      r .before .float-at2 .ensures,
+      y .float-at .ensures,
+      y .before .vec-at2 .ensures,
+      x .vec-at .ensures,
+      x .before .word .ensures,
+      l .lent .ensures,
+      l .before .args-before .ensures,
+    ))
     (s .send .ensures)
 
 pub viewer-prim-bounds-spec : {M : Type 1} → statement M

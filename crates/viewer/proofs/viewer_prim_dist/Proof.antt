@@ -15,7 +15,17 @@ returns c =
     let x = y .before .before in
     let l = x .before .before in
     sent-as
-    (rw (r .prim-dist .ensures, v .vec-at3 .ensures, v .before .float-at2 .ensures, y .float-at .ensures, y .before .vec-at2 .ensures, x .vec-at .ensures, x .before .word .ensures, l .lent .ensures, l .before .args-before .ensures))
+    (rw (
+      r .prim-dist .ensures,
+      v .vec-at3 .ensures,
+      v .before .float-at2 .ensures,
+      y .float-at .ensures,
+      y .before .vec-at2 .ensures,
+      x .vec-at .ensures,
+      x .before .word .ensures,
+      l .lent .ensures,
+      l .before .args-before .ensures,
+    ))
     (s .send .ensures)
 
 pub viewer-prim-dist-spec : {M : Type 1} → statement M

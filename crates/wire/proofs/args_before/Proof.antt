@@ -6,7 +6,7 @@ use Rattle.wire.proofs.args_before.Tie as tie
 
 returns : tie.Need-returns
 unfolding argsBefore
-returns c = cc
+returns c = rw (c .lower .ensures, c .before .short2 .ensures, c .before .before .short .ensures)
 
 pub args-before-spec : {M : Type 1} → statement M
 args-before-spec = tie.close (tie.spec

@@ -6,7 +6,7 @@ use Rattle.wire.proofs.ask_before.Tie as tie
 
 returns : tie.Need-returns
 unfolding askBefore
-returns c = cc
+returns c = rw (c .lower .ensures, c .before .tree-before .ensures, c .before .before .plan-before .ensures)
 
 pub ask-before-spec : {M : Type 1} → statement M
 ask-before-spec =

@@ -12,7 +12,8 @@ use Rattle.wire.proofs.clear_front.Statement.{statement}
 use Rattle.wire.proofs.clear_front.Tie as tie
 
 abbrev Inv-loop : tie.InvT-loop
-Inv-loop b₀ n i₀ b i = (n ≤ length b₀) × (i ≤ n) × (length b ≡ length b₀) × (b ≡ replicate i 0 ++ drop i b₀)
+Inv-loop b₀ n i₀ b i =
+    (n ≤ length b₀) × (i ≤ n) × (length b ≡ length b₀) × (b ≡ replicate i 0 ++ drop i b₀)
 
 abbrev μ-loop : tie.MeasureT-loop
 μ-loop b₀ n i₀ b i = n - i
@@ -22,12 +23,19 @@ loop-holds c = (search needs, search needs, search needs, fill-none _ 0)
 
 loop-again : tie.Need-loop-again Inv-loop μ-loop
 loop-again c =
-    let l = c .before .loop in (search needs, search needs, search needs, rw (l .inv .3) (fill-more (l .i) 0 _ (omega arith)))
+    let l = c .before .loop in (
+      search needs,
+      search needs,
+      search needs,
+      rw (l .inv .3)
+          (fill-more (l .i) 0 _ (omega arith)),
+    )
 
 returns : tie.Need-returns Inv-loop μ-loop
 unfolding clearedFront
 returns c =
-    let e : c .before .loop .i ≡ c .before .before .before .args .n = omega arith in simp (le-leb _ _ (c .before .before .if1 .taken)) (rw (← e) (c .before .loop .inv .3))
+    let e : c .before .loop .i ≡ c .before .before .before .args .n = omega arith in simp
+    (le-leb _ _ (c .before .before .if1 .taken)) (rw (← e) (c .before .loop .inv .3))
 
 returns-2 : tie.Need-returns-2 Inv-loop μ-loop
 unfolding clearedFront

@@ -6,7 +6,7 @@ use Rattle.wire.proofs.float_at.Tie as tie
 
 returns : tie.Need-returns
 unfolding givenFloat
-returns c = cc
+returns c = rw (c .float .ensures, c .before .word .ensures)
 
 pub float-at-spec : {M : Type 1} → statement M
 float-at-spec = tie.close (tie.spec

@@ -14,7 +14,8 @@ returns c =
     let s = a .before .before .before .before .before .before in
     let loaded =
     table-loaded _ _ _ _ _ (s .args .ws .now) _ _ _ _ _ (a .before .load-part-arg .given .0 .1) (n .none .ensures)
-    (a .load-part .ensures) (b .load-part2 .ensures) (x .load-part3 .ensures) (d .load-part4 .ensures) (e .load-part5 .ensures) in
+    (a .load-part .ensures) (b .load-part2 .ensures) (x .load-part3 .ensures) (d .load-part4 .ensures)
+    (e .load-part5 .ensures) in
     (loaded, floats-long _ _ _ (c .floats .ensures) (c .before .floats-arg3 .given .0 .1))
 
 pub load-spec : {M : Type 1} → statement M

@@ -6,7 +6,7 @@ use Rattle.wire.proofs.plan_before.Tie as tie
 
 returns : tie.Need-returns
 unfolding planBefore
-returns c = cc
+returns c = rw (c .lower .ensures, c .before .args-before .ensures, c .before .before .short .ensures)
 
 pub plan-before-spec : {M : Type 1} → statement M
 plan-before-spec = tie.close (tie.spec

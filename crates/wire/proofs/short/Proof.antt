@@ -6,7 +6,7 @@ use Rattle.wire.proofs.short.Tie as tie
 
 returns : tie.Need-returns
 unfolding shortNumber
-returns c = cc
+returns c = rw (c .unless .ensures)
 
 pub short-spec : {M : Type 1} → statement M
 short-spec = tie.close (tie.spec

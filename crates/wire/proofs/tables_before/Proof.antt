@@ -6,7 +6,7 @@ use Rattle.wire.proofs.tables_before.Tie as tie
 
 returns : tie.Need-returns
 unfolding tablesBefore
-returns c = cc
+returns c = rw (c .lower .ensures, c .before .short2 .ensures, c .before .before .short .ensures)
 
 pub tables-before-spec : {M : Type 1} → statement M
 tables-before-spec = tie.close (tie.spec

@@ -6,7 +6,9 @@ use Rattle.wire.proofs.tree_tables_before.Tie as tie
 
 returns : tie.Need-returns
 unfolding treeTablesBefore
-returns c = cc
+returns c =
+    let b1 = c .before in let b2 = b1 .before in
+    rw (c .lower .ensures, b1 .tables-before .ensures, b2 .plan-before .ensures)
 
 pub tree-tables-before-spec : {M : Type 1} → statement M
 tree-tables-before-spec =

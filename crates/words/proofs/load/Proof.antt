@@ -10,19 +10,26 @@ use Rattle.words.proofs.load.Statement.{statement}
 use Rattle.words.proofs.load.Tie as tie
 
 abbrev Inv-loop : tie.InvT-loop
-Inv-loop b words₀ m i₀ words i = (m ≤ length words₀) × (i ≤ m) × (length words ≡ length words₀) × (take i words ≡ wordsOf b i)
+Inv-loop b words₀ m i₀ words i =
+    (m ≤ length words₀) × (i ≤ m) × (length words ≡ length words₀) × (take i words ≡ wordsOf b i)
 
 abbrev μ-loop : tie.MeasureT-loop
 μ-loop b words₀ m i₀ words i = m - i
 
 abbrev Inv-loop2 : tie.InvT-loop2
-Inv-loop2 b words₀ m i₀ words i = (m ≤ i) × (i ≤ length words₀) × (length words ≡ length words₀) × (take i words ≡ wordsOf b i)
+Inv-loop2 b words₀ m i₀ words i =
+    (m ≤ i) × (i ≤ length words₀) × (length words ≡ length words₀) × (take i words ≡ wordsOf b i)
 
 abbrev μ-loop2 : tie.MeasureT-loop2
 μ-loop2 b words₀ m i₀ words i = length words₀ - i
 
 loop-holds : tie.Need-loop-holds Inv-loop μ-loop Inv-loop2 μ-loop2
-loop-holds c = (search needs, search needs, search needs, fill-none (wordAt (c .before .before .before .args .b .now)) (c .before .before .before .args .words .now))
+loop-holds c = (
+  search needs,
+  search needs,
+  search needs,
+  fill-none (wordAt (c .before .before .before .args .b .now)) (c .before .before .before .args .words .now),
+)
 
 loop-again : tie.Need-loop-again Inv-loop μ-loop Inv-loop2 μ-loop2
 loop-again c = let l = c .before .before .loop in (search needs, search needs, search needs, fill-more (wordAt _) (l .words) (l .i) _ (search needs) (c .word .ensures) (l .inv .3))

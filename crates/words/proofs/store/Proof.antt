@@ -11,7 +11,9 @@ use Rattle.words.proofs.store.Statement.{statement}
 use Rattle.words.proofs.store.Tie as tie
 
 abbrev Inv-loop : tie.InvT-loop
-Inv-loop words b₀ m i₀ b i = (m ≡ min (length words) (length b₀ / 4)) × (i ≤ m) × (length b ≡ length b₀) × (putWords b i (drop i words) ≡ withWords b₀ words)
+Inv-loop words b₀ m i₀ b i =
+    (m ≡ min (length words) (length b₀ / 4)) × (i ≤ m) × (length b ≡ length b₀) ×
+    (putWords b i (drop i words) ≡ withWords b₀ words)
 
 abbrev μ-loop : tie.MeasureT-loop
 μ-loop words b₀ m i₀ b i = m - i

@@ -8,7 +8,8 @@ use Rattle.classroom.proofs.deep.add_points.Tie as tie
 
 abbrev Inv-loop : tie.InvT-loop
 Inv-loop plan₀ nodes₀ order₀ x₀ k₀ plan nodes order x k =
-    (k ≤ 67) × (length plan ≡ length plan₀) × (length nodes ≡ length nodes₀) × (length order ≡ length order₀)
+    (k ≤ 67) × (length plan ≡ length plan₀) × (length nodes ≡ length nodes₀) ×
+    (length order ≡ length order₀)
 
 abbrev μ-loop : tie.MeasureT-loop
 μ-loop plan₀ nodes₀ order₀ x₀ k₀ plan nodes order x k = 67 - k

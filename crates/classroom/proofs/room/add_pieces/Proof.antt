@@ -8,7 +8,8 @@ use Rattle.classroom.proofs.room.add_pieces.Tie as tie
 
 abbrev Inv-loop : tie.InvT-loop
 Inv-loop plan₀ nodes₀ order₀ k₀ plan nodes order k =
-    (k ≤ 68) × (length plan ≡ length plan₀) × (length nodes ≡ length nodes₀) × (length order ≡ length order₀)
+    (k ≤ 68) × (length plan ≡ length plan₀) × (length nodes ≡ length nodes₀) ×
+    (length order ≡ length order₀)
 
 abbrev μ-loop : tie.MeasureT-loop
 μ-loop plan₀ nodes₀ order₀ k₀ plan nodes order k = 68 - k

@@ -6,7 +6,7 @@ use Rattle.quad.proofs.Quad.normal.Tie as tie
 
 returns : tie.Need-returns
 unfolding normalOf
-returns c = cc
+returns c = rw (c .normalize .ensures, c .before .spanned .ensures)
 
 pub normal-spec : {M : Type 1} → statement M
 normal-spec = tie.close (tie.spec

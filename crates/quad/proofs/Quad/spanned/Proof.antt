@@ -6,7 +6,7 @@ use Rattle.quad.proofs.Quad.spanned.Tie as tie
 
 returns : tie.Need-returns
 unfolding spanned
-returns c = cc
+returns c = rw (c .cross .ensures, c .before .sub2 .ensures, c .before .before .sub .ensures)
 
 pub spanned-spec : {M : Type 1} → statement M
 spanned-spec = tie.close (tie.spec

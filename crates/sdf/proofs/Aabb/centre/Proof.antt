@@ -6,7 +6,7 @@ use Rattle.sdf.proofs.Aabb.centre.Tie as tie
 
 returns : tie.Need-returns
 unfolding centreOf
-returns c = cc
+returns c = rw (c .scale .ensures, c .before .add .ensures)
 
 pub centre-spec : {M : Type 1} → statement M
 centre-spec = tie.close (tie.spec

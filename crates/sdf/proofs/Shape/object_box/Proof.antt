@@ -7,11 +7,18 @@ use Rattle.sdf.proofs.Shape.object_box.Tie as tie
 
 returns : tie.Need-returns
 unfolding boxOf
-returns c = rw (sym (c .before .before .before .before .bounds .ensures), c .before .before .b .given .1) (c .widened .ensures)
+returns c =
+    rw (sym (c .before .before .before .before .bounds .ensures), c .before .before .b .given .1) (c .widened .ensures)
 
 returns-2 : tie.Need-returns-2
 unfolding boxOf
-returns-2 c = rw (sym (c .before .before .before .before .bounds .ensures), c .before .before .enum-told .given .1, c .before .splat .ensures, c .splat2 .ensures)
+returns-2 c =
+    rw (
+      sym (c .before .before .before .before .bounds .ensures),
+      c .before .before .enum-told .given .1,
+      c .before .splat .ensures,
+      c .splat2 .ensures,
+    )
 
 pub object-box-spec : {M : Type 1} → statement M
 object-box-spec =

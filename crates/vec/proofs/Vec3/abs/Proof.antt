@@ -6,7 +6,7 @@ use Rattle.vec.proofs.Vec3.abs.Tie as tie
 
 returns : tie.Need-returns
 unfolding vabs
-returns c = cc
+returns c = rw (c .abs3 .ensures, c .before .abs2 .ensures, c .before .before .abs .ensures)
 
 pub abs-spec : {M : Type 1} → statement M
 abs-spec = tie.close (tie.spec

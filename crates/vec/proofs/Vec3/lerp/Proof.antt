@@ -6,7 +6,7 @@ use Rattle.vec.proofs.Vec3.lerp.Tie as tie
 
 returns : tie.Need-returns
 unfolding vlerp
-returns c = cc
+returns c = rw (c .add .ensures, c .before .scale2 .ensures, c .before .before .scale .ensures)
 
 pub lerp-spec : {M : Type 1} → statement M
 lerp-spec = tie.close (tie.spec

@@ -6,7 +6,7 @@ use Rattle.vec.proofs.Vec3.max.Tie as tie
 
 returns : tie.Need-returns
 unfolding vmax
-returns c = cc
+returns c = rw (c .max3 .ensures, c .before .max2 .ensures, c .before .before .max .ensures)
 
 pub max-spec : {M : Type 1} → statement M
 max-spec = tie.close (tie.spec

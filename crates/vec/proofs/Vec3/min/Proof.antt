@@ -6,7 +6,7 @@ use Rattle.vec.proofs.Vec3.min.Tie as tie
 
 returns : tie.Need-returns
 unfolding vmin
-returns c = cc
+returns c = rw (c .min3 .ensures, c .before .min2 .ensures, c .before .before .min .ensures)
 
 pub min-spec : {M : Type 1} → statement M
 min-spec = tie.close (tie.spec

@@ -6,7 +6,7 @@ use Rattle.vec.proofs.Vec3.normalize.Tie as tie
 
 returns : tie.Need-returns
 unfolding vnormalize
-returns c = cc
+returns c = rw (c .scale .ensures, c .before .length .ensures)
 
 pub normalize-spec : {M : Type 1} → statement M
 normalize-spec = tie.close (tie.spec
