@@ -1,9 +1,8 @@
--- Every exported call sends the lowest of the numbers that apply to it: each definition of a number is a nest of
--- `lower`, and `lower` is associative. Assumes nothing.
+-- Every exported call sends the lowest number that applies: its number is a nest of `lower`. Assumes nothing.
 use Prim.Native.Nat.{ℕ, zero, suc}
 use mathlib.Core.Path.{_≡_, refl, sym, _∙_}
 use mathlib.Core.Bool.{Bool, true, false, cond, _||_}
-use mathlib.Core.List.{List, []}
+use mathlib.Core.List.{List}
 use lib.ListN.{length}
 use lib.Dec.{eqb, eqb·suc-zero}
 use lib.Ieee.{Float}
@@ -19,12 +18,9 @@ use Rattle.plan.specs.Plan.{seen, planIn}
 use Rattle.plan_test.specs.Tests.{objectsNumber}
 use Rattle.plan_entry.specs.Entry.{argsNumber, roomNumber, pieceNumber, recordNumber}
 use Rattle.bvh_build.specs.Tables.{lowEnough}
-use Rattle.trace.specs.declared.Traced.{Traced}
-use Rattle.trace.specs.declared.Traced.the-variants.{Met, Missed}
 use Rattle.emitter.specs.declared.Emitted.{Emitted}
 use Rattle.emitter.specs.declared.Emitted.the-variants.{Nothing, Shows}
-use Rattle.reply.specs.declared.Reply.{Reply}
-use Rattle.reply.specs.Reply.{doneReply, refusedReply, replyOf}
+use Rattle.reply.specs.Reply.{doneReply, refusedReply}
 use Rattle.wire.specs.Lent.{nodesBytes, orderBytes, shortNumber, lentOf, askTable}
 use Rattle.wire.specs.Sent.{argsBefore, planBefore, tablesBefore, treeTablesBefore, treeBefore, askBefore}
 use Rattle.bemitondry_values.specs.Values.{floatReply, boxWords, boxReply, rootReply, acosReply, primDistReply}
@@ -32,28 +28,21 @@ use Rattle.bemitondry_values.specs.Values.{primBoundsReply}
 use Rattle.bemitondry_values.specs.Light.{vecReply, formFactorReply, fresnelReply, f0Reply, diffuseAlbedoReply}
 use Rattle.bemitondry_emitter.specs.Emitter.{emitterNumber, emittedReply, emitterReply}
 use Rattle.bemitondry_ask.specs.Asks.{foundReply, queryNumber, queryReply, solidsAsk, distMatReply}
-use Rattle.bemitondry_ask.specs.Marches.{tracedReply, traceReply, shadowReply}
+use Rattle.bemitondry_ask.specs.Marches.{traceReply, shadowReply}
 use Rattle.bemitondry_light.specs.Light.{litAsk, litReply, directReply, directDiffuseReply}
 use Rattle.viewer.specs.Calls.{rootLent, acosLent, primDistLent, primBoundsLent, givenShape, formFactorLent}
 use Rattle.viewer.specs.Calls.{fresnelLent, f0Lent, diffuseAlbedoLent, emitterLent, askReply}
 use Rattle.bemitondry_tree.specs.Trees.{buildNumber, offeredTree, offerNumber}
-use Rattle.viewer.specs.Entries.{EntrySent, MaterialSent, LightSent, PlaneSent, ObjectSent}
+use Rattle.viewer.specs.Entries.{MaterialSent, LightSent, PlaneSent, ObjectSent}
 use Rattle.viewer.specs.Trees.{buildPlan, BuildSent, offerTable, OfferSent}
 use Rattle.promises.specs.Lowest.{lowestIn}
-use Rattle.promises.specs.Applies.{ofTree, ArgsCall, bounded, argsCalls, argsApply}
-use Rattle.promises.specs.Applies.{emitterApply, AskCall, askCalls, askApply, materialApply, lightApply}
-use Rattle.promises.specs.Applies.{planeApply, objectApply, buildApply, offerApply}
+use Rattle.promises.specs.Applies.{ofTree, ArgsCall, bounded, argsCalls, argsApply, emitterApply, AskCall}
+use Rattle.promises.specs.Applies.{askCalls, askApply, materialApply, lightApply, planeApply, objectApply}
+use Rattle.promises.specs.Applies.{buildApply, offerApply}
+use Rattle.promises.proofs.Cases.{_&_}
+use Rattle.promises.proofs.Replies.{reply-number, traced-number, sent-number}
 
-infixr 20 _&_
-abbrev _&_ : {A B : Type 0} → A → B → A × B
-a & b = (a, b)
-
--- ---- the number of a reply that is no refusal by itself
-sent : (n : ℕ) (r : Reply) → r .number ≡ 0 → replyOf n r .number ≡ n
-unfolding replyOf refusedReply
-sent zero r e = e
-sent (suc n) r e = rw (eqb·suc-zero n)
-
+-- 0 is no number
 none-first : (n : ℕ) → lower 0 n ≡ n
 unfolding lower
 none-first n = refl
@@ -64,7 +53,7 @@ ArgsLowest c = (args : List ℕ) (out : ℕ) → c .lent args out .number ≡ lo
 
 box-number : (n : ℕ) (b : Bounds) → boxReply n b .number ≡ lower n (unless wrongList (bounded b))
 unfolding boxReply doneReply refusedReply unless
-box-number n (Within b) = sent n (boxWords b) refl ∙ sym (lower-none n)
+box-number n (Within b) = reply-number n (boxWords b) refl ∙ sym (lower-none n)
 box-number n Unbounded = refl
 
 pub args-lowest : All ArgsLowest argsCalls
@@ -72,14 +61,14 @@ unfolding rootLent acosLent primDistLent primBoundsLent formFactorLent fresnelLe
     rootReply acosReply primDistReply primBoundsReply formFactorReply fresnelReply f0Reply diffuseAlbedoReply
     floatReply vecReply doneReply argsBefore lowestIn
 args-lowest =
-    (λ args out. sent _ _ refl ∙ simp (lower-assoc, lower-none))
-    & (λ args out. sent _ _ refl ∙ simp (lower-assoc, lower-none))
-    & (λ args out. sent _ _ refl ∙ simp (lower-assoc, lower-none))
+    (λ args out. reply-number _ _ refl ∙ simp (lower-assoc, lower-none))
+    & (λ args out. reply-number _ _ refl ∙ simp (lower-assoc, lower-none))
+    & (λ args out. reply-number _ _ refl ∙ simp (lower-assoc, lower-none))
     & (λ args out. box-number _ (boundsOf (givenShape (lentOf args 36))) ∙ simp (lower-assoc, lower-none))
-    & (λ args out. sent _ _ refl ∙ simp (lower-assoc, lower-none))
-    & (λ args out. sent _ _ refl ∙ simp (lower-assoc, lower-none))
-    & (λ args out. sent _ _ refl ∙ simp (lower-assoc, lower-none))
-    & (λ args out. sent _ _ refl ∙ simp (lower-assoc, lower-none))
+    & (λ args out. reply-number _ _ refl ∙ simp (lower-assoc, lower-none))
+    & (λ args out. reply-number _ _ refl ∙ simp (lower-assoc, lower-none))
+    & (λ args out. reply-number _ _ refl ∙ simp (lower-assoc, lower-none))
+    & (λ args out. reply-number _ _ refl ∙ simp (lower-assoc, lower-none))
     & tt
 
 emitted-number : (e : Emitted) → emittedReply e .number ≡ 0
@@ -88,9 +77,10 @@ emitted-number Nothing = refl
 emitted-number (Shows t emit) = refl
 
 pub emitter-lowest
-    : (lights args : List ℕ) (out : ℕ) → emitterLent lights args out .number ≡ lowestIn (emitterApply lights args out)
+    : (lights args : List ℕ) (out : ℕ)
+    → emitterLent lights args out .number ≡ lowestIn (emitterApply lights args out)
 unfolding emitterLent emitterReply emitterNumber argsBefore lowestIn
-emitter-lowest lights args out = sent _ _ (emitted-number _) ∙ simp (lower-assoc, lower-none)
+emitter-lowest lights args out = reply-number _ _ (emitted-number _) ∙ simp (lower-assoc, lower-none)
 
 -- ---- calls that ask
 tree-lowest
@@ -124,46 +114,35 @@ unfolding askBefore planBefore argsBefore lowestIn
 asked c h plan nodes order tree args out =
     h _ tree _ _ ∙ rw (tree-lowest tree nodes order) (simp (lower-assoc, lower-none))
 
-traced-number : (t : Traced) → tracedReply t .number ≡ 0
-unfolding tracedReply doneReply
-traced-number (Met h n) = refl
-traced-number (Missed n) = refl
-
 goes : All Goes askCalls
 unfolding queryReply distMatReply traceReply shadowReply directReply directDiffuseReply queryNumber solidsAsk litAsk
     foundReply litReply doneReply lowestIn
 goes =
-    (λ before tree w f. sent _ _ refl ∙ simp (lower-assoc, lower-none))
-    & (λ before tree w f. sent _ _ refl ∙ simp (lower-assoc, lower-none))
-    & (λ before tree w f. sent _ _ (traced-number _) ∙ simp (lower-assoc, lower-none))
-    & (λ before tree w f. sent _ _ refl ∙ simp (lower-assoc, lower-none))
-    & (λ before tree w f. sent _ _ refl ∙ simp (lower-assoc, lower-none))
-    & (λ before tree w f. sent _ _ refl ∙ simp (lower-assoc, lower-none))
+    (λ before tree w f. reply-number _ _ refl ∙ simp (lower-assoc, lower-none))
+    & (λ before tree w f. reply-number _ _ refl ∙ simp (lower-assoc, lower-none))
+    & (λ before tree w f. reply-number _ _ (traced-number _) ∙ simp (lower-assoc, lower-none))
+    & (λ before tree w f. reply-number _ _ refl ∙ simp (lower-assoc, lower-none))
+    & (λ before tree w f. reply-number _ _ refl ∙ simp (lower-assoc, lower-none))
+    & (λ before tree w f. reply-number _ _ refl ∙ simp (lower-assoc, lower-none))
     & tt
 
 pub asks-lowest : All AskLowest askCalls
 asks-lowest = all-map Goes AskLowest asked askCalls goes
 
--- ---- calls that write: the number that they send
-pub entry-sends
-    : {number index : ℕ} {left plan out : List ℕ} {n : ℕ} {plan′ out′ : List ℕ}
-    → EntrySent number index left plan out n plan′ out′
-    → n ≡ number
-unfolding doneReply
-entry-sends {number} e = e .sent .number-is ∙ sent number _ refl
-
+-- ---- calls that write
 module _ (plan args out : List ℕ) (n : ℕ) (plan′ out′ : List ℕ) where
-  pub material-lowest : MaterialSent plan args out n plan′ out′ → n ≡ lowestIn (materialApply plan args (length out))
+  pub material-lowest
+      : MaterialSent plan args out n plan′ out′ → n ≡ lowestIn (materialApply plan args (length out))
   unfolding recordNumber planBefore argsBefore lowestIn
-  material-lowest e = entry-sends e ∙ simp (lower-assoc, lower-none)
+  material-lowest e = sent-number _ _ (e .sent) ∙ simp (lower-assoc, lower-none)
 
   pub light-lowest : LightSent plan args out n plan′ out′ → n ≡ lowestIn (lightApply plan args (length out))
   unfolding recordNumber planBefore argsBefore lowestIn
-  light-lowest e = entry-sends e ∙ simp (lower-assoc, lower-none)
+  light-lowest e = sent-number _ _ (e .sent) ∙ simp (lower-assoc, lower-none)
 
   pub plane-lowest : PlaneSent plan args out n plan′ out′ → n ≡ lowestIn (planeApply plan args (length out))
   unfolding pieceNumber argsNumber headAt roomNumber planBefore argsBefore lowestIn
-  plane-lowest e = entry-sends e ∙ simp (lower-assoc, lower-none)
+  plane-lowest e = sent-number _ _ (e .sent) ∙ simp (lower-assoc, lower-none)
 
 pub object-lowest
     : (plan nodes order args out : List ℕ) (n : ℕ) (plan′ nodes′ order′ out′ : List ℕ)
@@ -171,7 +150,7 @@ pub object-lowest
     → n ≡ lowestIn (objectApply plan nodes order args (length out))
 unfolding pieceNumber argsNumber headAt roomNumber treeTablesBefore tablesBefore planBefore argsBefore lowestIn
 object-lowest plan nodes order args out n plan′ nodes′ order′ out′ e =
-    entry-sends (e .piece) ∙ simp (lower-assoc, lower-none)
+    sent-number _ _ (e .piece .sent) ∙ simp (lower-assoc, lower-none)
 
 -- of objects that are in order, the tree; else nothing is judged of it
 of-objects : (o t : ℕ) → cond (eqb o 0) t o ≡ lower o (cond (eqb o 0) t 0)
@@ -184,7 +163,7 @@ pub build-lowest
     → n ≡ lowestIn (buildApply plan nodes order (length out))
 unfolding buildNumber treeTablesBefore tablesBefore planBefore argsBefore doneReply lowestIn
 build-lowest plan nodes order out n nodes′ order′ out′ e =
-    e .sent .number-is ∙ sent _ _ refl
+    sent-number _ _ (e .sent)
     ∙ rw (of-objects (objectsNumber (buildPlan plan)) (unless tooDeep (lowEnough (buildPlan plan))))
     (simp (lower-assoc, lower-none))
 
@@ -195,5 +174,5 @@ pub offer-lowest
 unfolding offerNumber treeTablesBefore tablesBefore planBefore argsBefore doneReply lowestIn
 offer-lowest plan nodes order given ranks out n nodes′ order′ out′ e =
     let w : List ℕ = offerTable plan given ranks in
-    e .sent .number-is ∙ sent _ _ refl
+    sent-number _ _ (e .sent)
     ∙ rw (of-objects (objectsNumber (planIn w)) (offeredTree w (seen w))) (simp (lower-assoc, lower-none))

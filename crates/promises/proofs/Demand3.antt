@@ -1,4 +1,11 @@
 -- The third demand, of the exported calls on bytes: what Offer, Build, Eight and Standing show. Assumes nothing.
+pub mod Asked
+pub mod SameTree
+pub mod Offer
+pub mod Build
+pub mod Places
+pub mod Standing
+pub mod Eight
 use Prim.Native.Nat.{ℕ}
 use mathlib.Core.Path.{_≡_, sym, _∙_, ap}
 use mathlib.Core.List.{List}
@@ -17,32 +24,29 @@ use Rattle.bemitondry_ask.specs.Marches.{traceReply, shadowReply}
 use Rattle.bemitondry_light.specs.Light.{directReply, directDiffuseReply}
 use Rattle.viewer.specs.Calls.{Ask, askReply}
 use Rattle.promises.specs.Demand3.{FieldAnswers, fieldCalls, DemandThree}
-use Rattle.promises.proofs.Objects.{ask-length}
-use Rattle.promises.proofs.Offer.{offer-keeps}
-use Rattle.promises.proofs.Build.{build-keeps}
-use Rattle.promises.proofs.Eight.{no-call-eight}
-use Rattle.promises.proofs.Standing.{query-stands, solids-stand, lit-stand, not-refused}
+use Rattle.promises.proofs.Cases.{_&_}
+use Rattle.promises.proofs.Replies.{not-refused}
+use Rattle.promises.proofs.Demand3.Asked.{ask-length}
+use Rattle.promises.proofs.Demand3.Offer.{offer-keeps}
+use Rattle.promises.proofs.Demand3.Build.{build-keeps}
+use Rattle.promises.proofs.Demand3.Eight.{no-call-eight}
+use Rattle.promises.proofs.Demand3.Standing.{query-stands, solids-stand, lit-stand}
 
 -- ---- a call on a whole table whose number is 0
 abbrev Fields : Ask → Type 0
 Fields ask =
-    (before : ℕ) (w : List ℕ) → length w ≡ tableWords → ask before 1 w (seen w) .number ≡ 0 → FieldAnswers w
+    (before : ℕ) (w : List ℕ)
+    → length w ≡ tableWords → ask before 1 w (seen w) .number ≡ 0 → FieldAnswers w
 
 fields-each : All Fields fieldCalls
 unfolding distMatReply traceReply shadowReply directReply directDiffuseReply
-fields-each = (
-  λ before w l e. solids-stand before w l _ (not-refused _ _ e .0),
-  (
-    λ before w l e. solids-stand before w l _ (not-refused _ _ e .0),
-    (
-      λ before w l e. solids-stand before w l _ (not-refused _ _ e .0),
-      (
-        λ before w l e. lit-stand before w l _ _ (not-refused _ _ e .0),
-        (λ before w l e. lit-stand before w l _ _ (not-refused _ _ e .0), tt),
-      ),
-    ),
-  ),
-)
+fields-each =
+    (λ before w l e. solids-stand before w l _ (not-refused _ _ e .0))
+    & (λ before w l e. solids-stand before w l _ (not-refused _ _ e .0))
+    & (λ before w l e. solids-stand before w l _ (not-refused _ _ e .0))
+    & (λ before w l e. lit-stand before w l _ _ (not-refused _ _ e .0))
+    & (λ before w l e. lit-stand before w l _ _ (not-refused _ _ e .0))
+    & tt
 
 pub demand-three : DemandThree
 unfolding queryReply

@@ -1,5 +1,4 @@
--- What "the lowest is sent" means of two numbers, and of a list, where 0 is no number: by cases on which are 0, and by
--- induction on the list. Assumes nothing.
+-- What "the lowest is sent" means of two numbers and of a list, 0 being none: by cases, by induction. Assumes nothing.
 use Prim.Native.Nat.{ℕ, zero, suc, _≤_, _<_}
 use mathlib.Core.Path.{_≡_, refl, sym, _∙_, subst}
 use mathlib.Core.Logic.{_↔_, _⊎_, inl, inr, ⊎-elim}
@@ -39,7 +38,7 @@ lower-least (suc a) (suc b) =
       second = λ _. rw (eqb·suc-zero a, eqb·suc-zero b) (omega arith);
     }
 
--- and no other number is
+-- and no other number is the lowest
 cross : (a b n m : ℕ) → Lowest a b n → Lowest a b m → n ≡ a → m ≡ b → n ≡ m
 cross zero b n m x y e g = let z = x .none .0 e .1 in omega arith
 cross (suc a) zero n m x y e g = let z = y .none .0 g .0 in omega arith

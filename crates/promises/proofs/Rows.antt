@@ -13,9 +13,8 @@ use Rattle.vec.specs.declared.Vec3.{Vec3}
 use Rattle.vec.specs.Vec.{vsplat, vadd, vsub, vscale, vdot, vlength, vmax, vabs}
 use Rattle.sdf.specs.declared.Shape.{Shape}
 use Rattle.sdf.specs.declared.Shape.the-variants.{Sphere, RoundBox, Plane, Capsule, Torus, Cylinder, Cone}
-use Rattle.sdf.specs.Shapes.{sphere, roundBox, plane, capsule, torus, distOf}
-use Rattle.sdf.specs.Shapes.{beyond, cylinderSquare, cylinderBody, cylinder}
-use Rattle.sdf.specs.Shapes.{coneEnd, coneFoot, coneSign, coneAt, coneBody, cone}
+use Rattle.sdf.specs.Shapes.{sphere, roundBox, plane, capsule, torus, distOf, beyond, cylinderSquare, cylinderBody}
+use Rattle.sdf.specs.Shapes.{cylinder, coneEnd, coneFoot, coneSign, coneAt, coneBody, cone}
 use Rattle.words.specs.Lists.{listFrom, All}
 use Rattle.plan.specs.declared.DistHit.{DistHit}
 use Rattle.plan.specs.Sections.{tableWords}
@@ -82,8 +81,8 @@ abbrev down : Vec3
 down = record { x = f0; y = whole (negsuc 0); z = f0 }
 
 -- "A table all of whose words are 0 is the empty plan"
-abbrev emptyPlan : List ℕ
-emptyPlan = replicate tableWords 0
+abbrev zeroTable : List ℕ
+zeroTable = replicate tableWords 0
 
 abbrev pub rows : List Row
 rows =
@@ -108,7 +107,7 @@ rows =
     ∷ floatRow (pieceDist (less (ball 2) (ball 1)) (at 0 0 0)) f1
     -- P10 empty plan: f32::MAX, 0
     ∷ record {
-      gives = nearestHit (fieldBy 0 emptyPlan (seen emptyPlan) (at 0 0 0));
+      gives = nearestHit (fieldBy 0 zeroTable (seen zeroTable) (at 0 0 0));
       wanted = nearestHit (record { d = ofBits binary32 0x7f7f_ffff; mat = 0 });
     }
     -- P11 plane y = 0, ray (0,3,0) down, 0 to 10: hit at 3, count 2

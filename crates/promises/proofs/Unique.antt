@@ -33,7 +33,8 @@ offer-only a b = (only (a .reply) (b .reply), (only (a .nodes) (b .nodes), only 
 
 -- ---- what is sent: the number, and the bytes of `out`
 pub sent-only
-    : {r : Reply} {out : List ℕ} {n m : ℕ} {a b : List ℕ} → Sent r out n a → Sent r out m b → (n ≡ m) × (a ≡ b)
+    : {r : Reply} {out : List ℕ} {n m : ℕ} {a b : List ℕ}
+    → Sent r out n a → Sent r out m b → (n ≡ m) × (a ≡ b)
 sent-only x y = (only (x .number-is) (y .number-is), only (x .out-is) (y .out-is))
 
 -- ---- the exported calls that leave tables: the number, and every byte of `out` and of each table
@@ -58,7 +59,8 @@ build-bytes-only x y =
     (sent-only (x .sent) (y .sent), only (x .nodes-is) (y .nodes-is), only (x .order-is) (y .order-is))
 
 pub offer-bytes-only
-    : {number : ℕ} {w : List ℕ} {f : List Float} {nodes order out : List ℕ} {m n : ℕ} {s s′ t t′ a b : List ℕ}
+    : {number : ℕ} {w : List ℕ} {f : List Float} {nodes order out : List ℕ} {m n : ℕ}
+    {s s′ t t′ a b : List ℕ}
     → OfferOn number w f nodes order out m s t a → OfferOn number w f nodes order out n s′ t′ b
     → ((m ≡ n) × (a ≡ b)) × (s ≡ s′) × (t ≡ t′)
 offer-bytes-only x y =

@@ -79,7 +79,8 @@ argsCalls =
     ∷ record {
       lent = primBoundsLent;
       need = 36;
-      given = λ a. primNumber (wordAt a 0) (givenShape a) ∷ unless wrongList (bounded (boundsOf (givenShape a))) ∷ [];
+      given = λ a.
+          primNumber (wordAt a 0) (givenShape a) ∷ unless wrongList (bounded (boundsOf (givenShape a))) ∷ [];
     }
     ∷ record { lent = formFactorLent; need = 48; given = λ a. unless badNumber (quadOk (givenQuad a)) ∷ [] }
     ∷ record {
@@ -147,7 +148,8 @@ askCalls =
     ∷ []
 
 -- w is the call's table
-abbrev pub askApply : AskCall → List ℕ → List ℕ → List ℕ → ℕ → List ℕ → ℕ → List ℕ → List ℕ
+abbrev pub askApply
+    : AskCall → List ℕ → List ℕ → List ℕ → ℕ → List ℕ → ℕ → List ℕ → List ℕ
 askApply c plan nodes order tree args out w =
     ofPlan (c .need) plan args out ++ (ofTree tree nodes order ++ c .on tree w (seen w))
 

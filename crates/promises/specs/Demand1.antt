@@ -14,7 +14,6 @@ use Rattle.words.specs.Words.{sentWords}
 use Rattle.refusals.specs.Ranges.{upTo, withinUpTo}
 use Rattle.plan.specs.Sections.{materials, lights, cutsMost, cutterPlaces, argsRow}
 use Rattle.plan.specs.declared.Material.{Material}
-use Rattle.plan.specs.declared.QuadLight.{QuadLight}
 use Rattle.plan.specs.Records.{materialAt, lightAt, headAt}
 use Rattle.plan.specs.Plan.{Plan, Piece, cutsBy, seen, planIn, withMaterial, withLight}
 use Rattle.plan_test.specs.Tests.{countsOk, cuttersOf, objectsNumber, solidsOf, litNumber}
@@ -65,14 +64,15 @@ pub record PieceTaken (among : Bool) (bytes : ℕ) (w : List ℕ) : Type 0 where
   pub places : cuttersOf (planIn w .planes) + (cuttersOf (planIn w .objects) + argCuts w) ≤ cutterPlaces
 
 -- ---- what an entry leaves: 0 is sent exactly when it is taken; then the plan has one more, else every byte stays
-pub record Enters (Taken : Type 0) (need : ℕ) (plan args : List ℕ) (n : ℕ) (plan′ : List ℕ) (after : Plan) : Type 0
+pub record Enters (Taken : Type 0) (need : ℕ) (plan args : List ℕ) (n : ℕ) (plan′ : List ℕ)
+    (after : Plan) : Type 0
   where
     pub exactly : (n ≡ 0) ↔ Taken
     pub entered : n ≡ 0 → planWith need plan′ args ≡ after
     pub kept : 0 < n → plan′ ≡ plan
 
 -- the answer: the number of what entered, or a refusal's
-pub record Answered (index : ℕ) (out : List ℕ) (n : ℕ) (out′ : List ℕ) : Type 0 where
+pub record Replied (index : ℕ) (out : List ℕ) (n : ℕ) (out′ : List ℕ) : Type 0 where
   pub done : n ≡ 0 → out′ ≡ sentWords out (oneWord index .words)
   pub refused : 0 < n → out′ ≡ sentWords out (refusedReply n .words)
 
@@ -114,28 +114,29 @@ pub record DemandOne : Type 0 where
       → let w = planTable 20 plan args in
       Enters (Lent 20 plan args out × MaterialTaken w) 20 plan args n plan′
       (withMaterial (planIn w) (materialAt (seen w) argsRow))
-      × Answered (length (planIn w .materials)) out n out′
+      × Replied (length (planIn w .materials)) out n out′
   pub light-enters : (plan args out : List ℕ) (n : ℕ) (plan′ out′ : List ℕ)
       → LightSent plan args out n plan′ out′
       → let w = planTable 60 plan args in
       Enters (Lent 60 plan args out × LightTaken w) 60 plan args n plan′
       (withLight (planIn w) (lightAt (seen w) argsRow))
-      × Answered (length (planIn w .lights)) out n out′
+      × Replied (length (planIn w .lights)) out n out′
   pub plane-enters : (plan args out : List ℕ) (n : ℕ) (plan′ out′ : List ℕ)
       → PlaneSent plan args out n plan′ out′
       → let w = planTable 64 plan args in
       Enters (Lent 64 plan args out × PieceTaken true (length args) w) 64 plan args n plan′
       (withOne true (planIn w) (entering true w))
-      × Answered (length (planIn w .planes)) out n out′
+      × Replied (length (planIn w .planes)) out n out′
   pub object-enters : (plan nodes order args out : List ℕ) (n : ℕ) (plan′ nodes′ order′ out′ : List ℕ)
       → ObjectSent plan nodes order args out n plan′ nodes′ order′ out′
       → let w = planTable 64 plan args in
-      Enters ((Lent 64 plan args out × FullTree nodes order) × PieceTaken false (length args) w) 64 plan args n plan′
-      (withOne false (planIn w) (entering false w))
-      × (Answered (length (planIn w .objects)) out n out′
+      Enters ((Lent 64 plan args out × FullTree nodes order) × PieceTaken false (length args) w)
+      64 plan args n plan′ (withOne false (planIn w) (entering false w))
+      × (Replied (length (planIn w .objects)) out n out′
       × (Dropped n nodesBytes nodes nodes′ × Dropped n orderBytes order order′))
   pub zero-bytes : (k : ℕ) → planAt (replicate k 0) ≡ emptyPlan
   -- a sound plan is the same whatever is lent after it
-  pub alone : (need : ℕ) (plan args : List ℕ) → SoundSolids (planAt plan) → planWith need plan args ≡ planAt plan
+  pub alone : (need : ℕ) (plan args : List ℕ)
+      → SoundSolids (planAt plan) → planWith need plan args ≡ planAt plan
   pub runs-pass : {plan : List ℕ} → Run plan
       → SoundLit (planAt plan) × ((need : ℕ) (args : List ℕ) → Passes (planWith need plan args))

@@ -1,7 +1,6 @@
 -- Bytes are below 256 and words below 2^32: words of bytes are, and bytes of words are. Byte by byte. Assumes nothing.
 use Prim.Native.Nat.{ℕ, zero, suc, _+_, _*_, _/_, _%_, _<_}
 use native.Mathlib.Omega.{arith}
-use mathlib.Core.Bool.{Bool, true, false, cond}
 use mathlib.Core.List.{List, [], _∷_, _++_}
 use lib.ListN.{length, set, replicate}
 use lib.Dec.{leb, ltb}
@@ -12,7 +11,8 @@ use Rattle.plan.specs.Sections.{planWords, argsWords, nodesWords, orderPlaces}
 use Rattle.plan.specs.Records.{wordOf}
 use Rattle.wire.specs.Lent.{planBytes, lentOf, tableOf, planTable}
 use Rattle.promises.proofs.Tables.{zeros}
-use Rattle.promises.proofs.Given.{bytesOf}
+use Rattle.promises.proofs.Cases.{either}
+use Rattle.promises.proofs.Demand1.Given.{bytesOf}
 
 abbrev pub Small : ℕ → Type 0
 Small n = n < 4294967296
@@ -30,7 +30,7 @@ set-bytes (y ∷ b) (suc p) x h s (suc k) = set-bytes b p x h (λ j. s (suc j)) 
 
 put-bytes : (b : List ℕ) (i w : ℕ) → Small w → Bytes b → Bytes (putWord b i w)
 unfolding putWord
-put-bytes b i w h s = pick (ltb i (length b / 4))
+put-bytes b i w h s = either Bytes (ltb i (length b / 4)) (put4 b (4 * i) w) b (four (4 * i)) s
   where
     four : (p : ℕ) → Bytes (put4 b p w)
     four p =
@@ -41,10 +41,6 @@ put-bytes b i w h s = pick (ltb i (length b / 4))
         let s2 : Bytes b2 = set-bytes b1 (p + 1) (w / 256 % 256) (omega arith) s1 in
         let s3 : Bytes b3 = set-bytes b2 (p + 2) (w / 65536 % 256) (omega arith) s2 in
         set-bytes b3 (p + 3) (w / 16777216) (omega arith) s3
-
-    pick : (t : Bool) → Bytes (cond t (put4 b (4 * i) w) b)
-    pick true = four (4 * i)
-    pick false = s
 
 -- a list of words, each below 2^32
 data Words : List ℕ → Type 0 where
@@ -68,22 +64,14 @@ given-bytes g h = puts-bytes (replicate 576 0) 0 (small-from g h 0 argsWords) (b
 
 word-small : (b : List ℕ) → Bytes b → (i : ℕ) → Small (wordAt b i)
 unfolding wordAt
-word-small b s i = pick (ltb i (length b / 4))
+word-small b s i = either Small (ltb i (length b / 4)) (le4 b (4 * i)) 0 (four (4 * i)) (omega arith)
   where
     four : (p : ℕ) → Small (le4 b p)
     four p = omega (arith, s p, s (p + 1), s (p + 2), s (p + 3))
 
-    pick : (t : Bool) → Small (cond t (le4 b (4 * i)) 0)
-    pick true = four (4 * i)
-    pick false = omega arith
-
 lent-bytes : (b : List ℕ) (n : ℕ) → Bytes b → Bytes (lentOf b n)
 unfolding lentOf
-lent-bytes b n s = pick (leb n (length b))
-  where
-    pick : (t : Bool) → Bytes (cond t b [])
-    pick true = s
-    pick false = λ k. omega arith
+lent-bytes b n s = either Bytes (leb n (length b)) b [] s (λ k. omega arith)
 
 join : {xs ys : List ℕ} → Words xs → Words ys → Words (xs ++ ys)
 join none b = b

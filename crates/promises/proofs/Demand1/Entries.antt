@@ -1,16 +1,13 @@
--- An entry on bytes: what it stores the next call loads, so what is known of its table holds of the bytes, and a plan
--- made by entries stays one. One law for the four entries. Assumes nothing.
-use Prim.Native.Nat.{ℕ, zero, suc, _<_}
-use native.Mathlib.Omega.{arith}
+-- An entry on bytes: what it stores the next call loads, so what holds of its table does of them. Assumes nothing.
+use Prim.Native.Nat.{ℕ, _<_}
 use mathlib.Core.Path.{_≡_, refl, sym, _∙_, ap, subst}
-use mathlib.Core.Logic.{_↔_, ⊎-elim}
+use mathlib.Core.Logic.{_↔_}
 use mathlib.Core.Bool.{Bool, true, false, cond}
-use mathlib.Core.List.{List, []}
+use mathlib.Core.List.{List}
 use lib.ListN.{length, take}
-use lib.Dec.{eqb, eqb·suc-zero}
+use lib.Dec.{eqb}
 use Rattle.words.specs.Words.{withWords}
-use Rattle.words.proofs.Laws.{less-or}
-use Rattle.plan.specs.Sections.{planWords, tableWords, argsRow}
+use Rattle.plan.specs.Sections.{planWords, argsRow}
 use Rattle.plan.specs.Records.{materialAt, lightAt}
 use Rattle.plan.specs.Plan.{Plan, seen, planIn, withMaterial, withLight}
 use Rattle.plan_test.specs.Tests.{solidsOf}
@@ -19,77 +16,74 @@ use Rattle.plan_entry.specs.After as made
 use Rattle.plan_entry.specs.After.{withOne, Made}
 use Rattle.plan_entry.proofs.Entered.{piece-entered, material-entered, light-entered}
 use Rattle.wire.specs.Lent.{planTable}
-use Rattle.wire.specs.Sent.{planBefore}
+use Rattle.wire.specs.Sent.{planBefore, cleared}
 use Rattle.bemitondry_entry.specs.Entries.{materialEntry, lightEntry, pieceEntry, pieceLeft}
 use Rattle.viewer.specs.Entries.{EntrySent, objectBefore}
 use Rattle.promises.specs.Bytes.{FullPlan, FullTree}
-use Rattle.promises.specs.Demand1.{Lent, MaterialTaken, LightTaken, PieceTaken, Enters, entering}
-use Rattle.promises.specs.Demand1.{material, light}
-use Rattle.promises.proofs.Tables.{Leaves, table-size, stored, front-same, relent-word}
-use Rattle.promises.proofs.Applies.{entry-sends}
-use Rattle.promises.proofs.Leaves.{piece-leaves, material-leaves, light-leaves}
-use Rattle.promises.proofs.Taken.{lent-exact, lent-tree-exact, material-taken, light-taken, piece-taken}
-
--- ---- what any entry's number decides
-pub refused : {A : Type 0} (m : ℕ) (x y : A) → 0 < m → cond (eqb m 0) x y ≡ y
-refused zero x y h = absurd (omega arith)
-refused (suc m) x y h = rw (eqb·suc-zero m)
+use Rattle.promises.specs.Demand1.{Lent, MaterialTaken, LightTaken, PieceTaken, Enters, entering, Replied}
+use Rattle.promises.specs.Demand1.{Dropped}
+use Rattle.promises.proofs.Cases.{cond-some}
+use Rattle.promises.proofs.Replies.{sent-number, sent-word, sent-refusal}
+use Rattle.promises.proofs.Lengths.{lent-exact, lent-tree-exact}
+use Rattle.promises.proofs.Tables.{plan-length}
+use Rattle.promises.proofs.Demand1.Writes.{WritesPlan, stored-table, piece-writes, material-writes}
+use Rattle.promises.proofs.Demand1.Writes.{light-writes}
+use Rattle.promises.proofs.Demand1.Taken.{material-taken, light-taken, piece-taken}
 
 -- an entry, as tables have it: its number, what it leaves, the lengths and the record that it takes, and the plan then
 pub record Entry (number need : ℕ) (plan args left : List ℕ) (L Taken : Type 0) (after : Plan) : Type 0 where
   pub exactly : (number ≡ 0) ↔ (L × Taken)
   pub full : L → FullPlan plan
-  pub leaves : Leaves (planTable need plan args) left
+  pub writes : WritesPlan (planTable need plan args) left
   pub entered : number ≡ 0 → planIn left ≡ after
   pub makes : Made (planTable need plan args) → Taken → Made left
 
--- a plan made by entries stays one with other arguments
-relent
-    : (need need′ : ℕ) (plan args args′ : List ℕ)
-    → Made (planTable need plan args)
-    → Made (planTable need′ plan args′)
-relent need need′ plan args args′ m =
-    let w : List ℕ = planTable need plan args in
-    let v : List ℕ = planTable need′ plan args′ in
-    let size = table-size need′ plan args′ in
-    made.relent w v m size
-    (front-same planWords tableWords v w size (table-size need plan args) (relent-word need′ args′ need args plan))
-
-module _ {number index need : ℕ} {plan args left out : List ℕ} {n : ℕ} {plan′ out′ : List ℕ} {L Taken : Type 0}
-    {after : Plan} (e : Entry number need plan args left L Taken after)
+module _ {number index need : ℕ} {plan args left out : List ℕ} {n : ℕ} {plan′ out′ : List ℕ}
+    {L Taken : Type 0} {after : Plan} (e : Entry number need plan args left L Taken after)
     (s : EntrySent number index left plan out n plan′ out′) where
-  pub kept : 0 < number → plan′ ≡ plan
-  kept h = s .plan-is ∙ refused number (withWords plan (take planWords left)) plan h
+  pub plan-kept : 0 < number → plan′ ≡ plan
+  plan-kept h = s .plan-is ∙ cond-some number (withWords plan (take planWords left)) plan h
 
-  loaded : number ≡ 0 → planTable need plan′ args ≡ left
-  loaded z =
+  pub plan-loaded : number ≡ 0 → planTable need plan′ args ≡ left
+  plan-loaded z =
       let stores : plan′ ≡ withWords plan (take planWords left)
       = s .plan-is ∙ ap (λ (m : ℕ). cond (eqb m 0) (withWords plan (take planWords left)) plan) z in
       ap (λ (b : List ℕ). planTable need b args) stores
-      ∙ stored need plan args left (e .full (e .exactly .0 z .0)) (e .leaves)
+      ∙ stored-table need plan args left (e .full (e .exactly .0 z .0)) (e .writes)
 
-  pub enters : Enters (L × Taken) need plan args n plan′ after
-  enters =
-      let i = entry-sends s in
+  pub entry-enters : Enters (L × Taken) need plan args n plan′ after
+  entry-enters =
+      let i = sent-number _ _ (s .sent) in
       record {
         exactly = (λ z. e .exactly .0 (sym i ∙ z), λ t. i ∙ e .exactly .1 t);
-        entered = λ z. ap planIn (loaded (sym i ∙ z)) ∙ e .entered (sym i ∙ z);
-        kept = λ h. kept (subst (λ (m : ℕ). 0 < m) i h);
+        entered = λ z. ap planIn (plan-loaded (sym i ∙ z)) ∙ e .entered (sym i ∙ z);
+        kept = λ h. plan-kept (subst (λ (m : ℕ). 0 < m) i h);
       }
 
-  pub still-made : Made (planTable 0 plan []) → Made (planTable 0 plan′ [])
-  still-made m =
-      ⊎-elim
-      (λ h. subst (λ (b : List ℕ). Made (planTable 0 b [])) (sym (kept h)) m)
-      (λ h.
-      let z : number ≡ 0 = omega arith in
-      relent need 0 plan′ args []
-      (subst Made (sym (loaded z)) (e .makes (relent 0 need plan [] args m) (e .exactly .0 z .1))))
-      (less-or 0 number)
+-- ---- the answer, and the tree
+pub entry-answers
+    : {number index k : ℕ} {left plan out : List ℕ} {n : ℕ} {plan′ out′ : List ℕ}
+    → EntrySent number index left plan out n plan′ out′
+    → k ≡ index
+    → Replied k out n out′
+entry-answers s c =
+    record {
+      done = λ z. sent-word _ _ (s .sent) (sym (sent-number _ _ (s .sent)) ∙ z) (sym c);
+      refused = sent-refusal _ _ (s .sent);
+    }
+
+pub tree-drops
+    : {number n full : ℕ} {table table′ : List ℕ}
+    → n ≡ number
+    → table′ ≡ cleared (eqb number 0) table full
+    → Dropped n full table table′
+unfolding cleared
+tree-drops {number} {n} {full} {table} e is =
+    record { dropped = λ z. is ∙ rw (sym e, z); kept = λ h. is ∙ rw (sym e) (cond-some n _ table h) }
 
 -- ---- the four entries
-none : (_≡_ {A = ℕ} 0 0) ↔ Unit {0}
-none = (λ _. tt, λ _. refl)
+none-before : (_≡_ {A = ℕ} 0 0) ↔ Unit {0}
+none-before = (λ _. tt, λ _. refl)
 
 module _ (plan args out : List ℕ) where
   pub material-entry
@@ -103,9 +97,9 @@ module _ (plan args out : List ℕ) where
       record {
         exactly = material-taken before (Lent 20 plan args out) (lent-exact 20 plan args out) w;
         full = λ l. l .plan-full;
-        leaves = material-leaves w;
-        entered = material-entered before w (table-size 20 plan args);
-        makes = λ m t. made.material w m (material-taken 0 Unit none w .1 (tt, t));
+        writes = material-writes w;
+        entered = material-entered before w (plan-length 20 plan args);
+        makes = λ m t. made.material w m (material-taken 0 Unit none-before w .1 (tt, t));
       }
 
   pub light-entry
@@ -119,12 +113,12 @@ module _ (plan args out : List ℕ) where
       record {
         exactly = light-taken before (Lent 60 plan args out) (lent-exact 60 plan args out) w;
         full = λ l. l .plan-full;
-        leaves = light-leaves w;
-        entered = light-entered before w (table-size 60 plan args);
-        makes = λ m t. made.light w m (light-taken 0 Unit none w .1 (tt, t));
+        writes = light-writes w;
+        entered = light-entered before w (plan-length 60 plan args);
+        makes = λ m t. made.light w m (light-taken 0 Unit none-before w .1 (tt, t));
       }
 
-  pub piece-entry
+  piece-entry
       : (among : Bool) (before : ℕ) (L : Type 0)
       → (before ≡ 0) ↔ L
       → (L → FullPlan plan)
@@ -137,9 +131,9 @@ module _ (plan args out : List ℕ) where
       record {
         exactly = piece-taken before L p among bytes w;
         full = full;
-        leaves = piece-leaves among w (newPlace among (solidsOf (planIn w)) (argCuts w));
-        entered = piece-entered before among w bytes (table-size 64 plan args);
-        makes = λ m t. made.piece among bytes w m (piece-taken 0 Unit none among bytes w .1 (tt, t));
+        writes = piece-writes among w (newPlace among (solidsOf (planIn w)) (argCuts w));
+        entered = piece-entered before among w bytes (plan-length 64 plan args);
+        makes = λ m t. made.piece among bytes w m (piece-taken 0 Unit none-before among bytes w .1 (tt, t));
       }
 
   pub plane-entry

@@ -1,10 +1,9 @@
--- Arguments that hold given words: bytes for any words, and the records that a call reads from them, whatever its plan.
--- Word by word. Assumes nothing.
+-- Bytes that hold any words given, and the records that a call reads from them: word by word. Assumes nothing.
 use Prim.Native.Nat.{ℕ, _+_, _*_, _<_, _≤_}
 use native.Mathlib.Nat.{add-zero}
 use native.Mathlib.Omega.{arith}
 use mathlib.Core.Path.{_≡_, sym, _∙_, ap}
-use mathlib.Core.List.{List, []}
+use mathlib.Core.List.{List}
 use lib.ListN.{length, replicate, length-replicate}
 use mathlib.Core.Bool.{cond}
 use lib.Dec.{ltb}
@@ -14,7 +13,7 @@ use Rattle.sdf.specs.declared.Shape.{Shape}
 use Rattle.words.specs.Lists.{listFrom}
 use Rattle.words.specs.Words.{wordAt, withWords}
 use Rattle.words.proofs.Runs.{length-from, from-same, getD-from}
-use Rattle.words.proofs.Laws.{length-puts, store-load}
+use Rattle.words.proofs.Laws.{length-puts}
 use Rattle.refusals.specs.Prims.{shapeOf}
 use Rattle.plan.specs.declared.Cutter.{Cutter}
 use Rattle.plan.specs.declared.Head.{Head}
@@ -23,7 +22,7 @@ use Rattle.plan.specs.Records.{wordOf, floatOf, primOf, cutterAt, headAt}
 use Rattle.plan.specs.Plan.{Piece, cutsBy, pieceAt, seen}
 use Rattle.plan.proofs.Rows.{float-of}
 use Rattle.wire.specs.Lent.{planTable}
-use Rattle.promises.proofs.Tables.{full, args-word}
+use Rattle.promises.proofs.Tables.{stored-word, lent-full, args-word}
 
 -- ---- bytes whose words are g 0, g 1, ..: so many as a call's table has of its arguments
 unfoldable pub bytesOf : (ℕ → ℕ) → List ℕ
@@ -33,26 +32,14 @@ pub length-bytes : (g : ℕ → ℕ) → length (bytesOf g) ≡ 576
 unfolding bytesOf
 length-bytes g = length-puts (replicate 576 0) 0 (listFrom g 0 argsWords) ∙ length-replicate {A = ℕ} 576 0
 
--- over any number of words
-words-back
-    : (g : ℕ → ℕ) (b : List ℕ) (n i : ℕ)
-    → 4 * n ≤ length b
-    → i < n
-    → wordAt (withWords b (listFrom g 0 n)) i ≡ g i
-words-back g b n i h p =
-    let ws : List ℕ = listFrom g 0 n in
-    let size : length ws ≡ n = length-from g 0 n in
-    let z : 0 + i ≡ i = omega arith in
-    ap (wordAt (withWords b ws)) (sym z)
-    ∙ sym (getD-from (wordAt (withWords b ws)) 0 (length ws) i 0 (omega arith))
-    ∙ ap (λ (t : List ℕ). wordOf t i) (store-load b ws (omega arith))
-    ∙ getD-from g 0 n i 0 p
-    ∙ ap g z
-
 bytes-word : (g : ℕ → ℕ) (i : ℕ) → i < argsWords → wordAt (bytesOf g) i ≡ g i
 unfolding bytesOf
 bytes-word g i h =
-    words-back g (replicate 576 0) argsWords i (omega (arith, length-replicate {A = ℕ} 576 0)) h
+    let z : 0 + i ≡ i = omega arith in
+    stored-word (replicate 576 0) (listFrom g 0 argsWords) argsWords (length-from g 0 argsWords)
+    (omega (arith, length-replicate {A = ℕ} 576 0)) i h
+    ∙ getD-from g 0 argsWords i 0 h
+    ∙ ap g z
 
 pub given-word
     : (need : ℕ) (plan : List ℕ) (g : ℕ → ℕ) (i : ℕ)
@@ -61,7 +48,7 @@ pub given-word
     → wordOf (planTable need plan (bytesOf g)) (planWords + i) ≡ g i
 given-word need plan g i h p =
     args-word need plan (bytesOf g) i p
-    ∙ ap (λ (t : List ℕ). wordAt t i) (full (bytesOf g) need (omega (arith, length-bytes g)))
+    ∙ ap (λ (t : List ℕ). wordAt t i) (lent-full (bytesOf g) need (omega (arith, length-bytes g)))
     ∙ bytes-word g i p
 
 -- ---- records by their words
@@ -119,11 +106,11 @@ module _ (w : List ℕ) (r : ℕ) (g : ℕ → ℕ) (h : r < 1706) where
   abbrev first : ((k : ℕ) → k < 9 → wordOf w (16 * r + k) ≡ g k) → wordOf w (16 * r) ≡ g 0
   first e = ap (wordOf w) (sym (add-zero (16 * r))) ∙ e 0 (omega arith)
 
-  pub cutter-by : ((k : ℕ) → k < 9 → wordOf w (16 * r + k) ≡ g k) → cutterAt w (seen w) r ≡ cutterBy g
+  cutter-by : ((k : ℕ) → k < 9 → wordOf w (16 * r + k) ≡ g k) → cutterAt w (seen w) r ≡ cutterBy g
   unfolding cutterAt
   cutter-by e = rw (prim-by w (16 * r) g (omega arith) e, first e)
 
-  pub head-by : ((k : ℕ) → k < 13 → wordOf w (16 * r + k) ≡ g k) → headAt w (seen w) r ≡ headBy g
+  head-by : ((k : ℕ) → k < 13 → wordOf w (16 * r + k) ≡ g k) → headAt w (seen w) r ≡ headBy g
   unfolding headAt
   head-by e =
       let at : (k : ℕ) → k < 9 → wordOf w (16 * r + 3 + k) ≡ g (3 + k)
@@ -167,7 +154,9 @@ own-word : (w : List ℕ) (r k : ℕ) → k < 16 → rowsOf w r k ≡ wordOf w (
 unfolding rowsOf
 own-word w r k h = rw (lt-ltb k 16 h)
 
-past : (w : List ℕ) (r k : ℕ) → 16 ≤ k → rowsOf w r k ≡ wordOf w (16 * (368 + headAt w (seen w) r .place) + k)
+past
+    : (w : List ℕ) (r k : ℕ)
+    → 16 ≤ k → rowsOf w r k ≡ wordOf w (16 * (368 + headAt w (seen w) r .place) + k)
 unfolding rowsOf
 past w r k h = rw (le-ltb k 16 h)
 

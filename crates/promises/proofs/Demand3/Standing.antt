@@ -1,12 +1,12 @@
 -- A call by the tree that is not refused searches an accepted tree only: its tests are exact. Assumes nothing.
-use Prim.Native.Nat.{ℕ, zero, suc, _≤_}
+use Prim.Native.Nat.{ℕ, _≤_}
 use native.Mathlib.Omega.{arith}
 use mathlib.Core.Path.{_≡_, refl, sym, _∙_, subst}
-use mathlib.Core.Logic.{_⊎_, inl, inr, ⊎-elim}
-use mathlib.Core.Bool.{Bool, true, false, cond, _&&_, and-eq-true-iff}
+use mathlib.Core.Logic.{inl, inr, ⊎-elim}
+use mathlib.Core.Bool.{Bool, true, false, cond, and-eq-true-iff}
 use mathlib.Core.List.{List, [], _∷_}
 use lib.ListN.{length}
-use lib.Dec.{T, eqb·suc-zero}
+use lib.Dec.{T}
 use lib.Seq.{take-all}
 use lib.Ieee.{Float, ofBits, neg, lt, le, eq}
 use denote.Floats.{passes}
@@ -14,12 +14,11 @@ use Rattle.scalar.specs.Ranges.{between, magnitude}
 use Rattle.vec.specs.declared.Vec3.{Vec3}
 use Rattle.refusals.specs.Refusals.{unless, lower}
 use Rattle.refusals.specs.Ranges.{greatest, farthest, within}
-use Rattle.refusals.proofs.Lowest.{unless-zero, lower-zero}
 use Rattle.plan.specs.declared.DistHit.{DistHit}
 use Rattle.plan.specs.Sections.{tableWords, objects}
 use Rattle.plan.specs.Plan.{Piece, countOf, planOf, seen, planIn}
 use Rattle.plan.specs.Nearest.{hitOf, closer, nearest, nothing}
-use Rattle.plan_test.specs.Tests.{objectsNumber, solidsOf, litNumber}
+use Rattle.plan_test.specs.Tests.{litNumber}
 use Rattle.plan_test.proofs.Exact.{objects-exact, solids-exact, lit-exact}
 use Rattle.float_order.proofs.Order.{le-right, lt-left, number-eq}
 use Rattle.bvh_boxes.specs.Boxes.{boxesOf}
@@ -33,12 +32,11 @@ use Rattle.bvh_search.specs.Field.{hitBy, fieldBy}
 use Rattle.bvh_search.specs.Demand.{Demand}
 use Rattle.bvh_search.proofs.Demand.{demand-met, search-empty}
 use Rattle.panel.specs.Panels.{panelsNumber}
-use Rattle.reply.specs.declared.Reply.{Reply}
-use Rattle.reply.specs.Reply.{refusedReply, replyOf}
 use Rattle.bemitondry_ask.specs.Asks.{argVec, argFloat, treeNumber, queryNumber, queryBound, solidsAsk}
 use Rattle.bemitondry_light.specs.Light.{panels, litAsk}
 use Rattle.promises.specs.Demand3.{Searches, Answers, FieldAnswers}
-use Rattle.promises.proofs.Places.{order-onto, evaluates-once}
+use Rattle.promises.proofs.Exact.{as-is, lower-exact, unless-exact, and-exact}
+use Rattle.promises.proofs.Demand3.Places.{order-onto, evaluates-once}
 
 finite-number : (x : Float) → magnitude x greatest ≡ true → T (eq x x)
 unfolding magnitude between
@@ -121,15 +119,13 @@ module _ (before : ℕ) (w : List ℕ) (long : length w ≡ tableWords) where
       (hitBy 1 w (seen w) (argVec (seen w) 0) (queryBound w (seen w)))
   unfolding queryNumber
   query-stands answered =
-      let near = within (argVec f 0) farthest in
-      let finite = magnitude (argFloat f 3) greatest in
-      let number = objectsNumber (planIn w) in
-      let a = lower-zero (queryNumber before w f) (treeNumber 1 w f) .0 answered in
-      let b = lower-zero before (lower (unless 1 (near && finite)) number) .0 (a .0) in
-      let c = lower-zero (unless 1 (near && finite)) number .0 (b .1) in
-      let d = and-eq-true-iff near finite .0 (unless-zero 0 (near && finite) .0 (c .0)) in
-      let few = objects-exact (planIn w) .0 (c .1) .counts .objects in
-      stood w long few (a .1) (argVec f 0) (queryBound w f) (finite-number (argFloat f 3) (d .1))
+      let near : Bool = within (argVec f 0) farthest in
+      let finite : Bool = magnitude (argFloat f 3) greatest in
+      let tests = lower-exact {a = before} as-is
+      (lower-exact (unless-exact 0 (and-exact {a = near} {b = finite} as-is as-is)) (objects-exact (planIn w))) in
+      let x = lower-exact {b = treeNumber 1 w f} tests as-is .0 answered in
+      stood w long (x .0 .1 .1 .counts .objects) (x .1) (argVec f 0) (queryBound w f)
+      (finite-number (argFloat f 3) (x .0 .1 .0 .1))
 
   -- at every point whatever, the field of a call whose number is 0 is such a search from the planes' nearest
   field-stands : length (planIn w .objects) ≤ 256 → treeNumber 1 w (seen w) ≡ 0 → FieldAnswers w
@@ -144,30 +140,19 @@ module _ (before : ℕ) (w : List ℕ) (long : length w ≡ tableWords) where
       : (given : Bool) → lower (solidsAsk before given w (seen w)) (treeNumber 1 w (seen w)) ≡ 0 → FieldAnswers w
   unfolding solidsAsk
   solids-stand given answered =
-      let number = solidsOf (planIn w) .number in
-      let a = lower-zero (solidsAsk before given w f) (treeNumber 1 w f) .0 answered in
-      let b = lower-zero before (lower (unless 1 given) number) .0 (a .0) in
-      let c = lower-zero (unless 1 given) number .0 (b .1) in
-      field-stands (solids-exact (planIn w) .0 (c .1) .counts .objects) (a .1)
+      let tests = lower-exact {a = before} as-is (lower-exact {a = unless 1 given} as-is (solids-exact (planIn w))) in
+      let x = lower-exact {b = treeNumber 1 w f} tests as-is .0 answered in
+      field-stands (x .0 .1 .1 .counts .objects) (x .1)
 
   -- `direct` and `direct_diffuse`, asked at q
   pub lit-stand : (given : ℕ) (q : Vec3) → litAsk before given 1 q w (seen w) ≡ 0 → FieldAnswers w
   unfolding litAsk
   lit-stand given q answered =
-      let number = litNumber (planIn w) in
-      let plan = lower before (lower given number) in
-      let a = lower-zero (lower plan (treeNumber 1 w f)) (panelsNumber q (panels w f)) .0 answered in
-      let b = lower-zero plan (treeNumber 1 w f) .0 (a .0) in
-      let c = lower-zero before (lower given number) .0 (b .0) in
-      let d = lower-zero given number .0 (c .1) in
-      field-stands (lit-exact (planIn w) .0 (d .1) .solids .counts .objects) (b .1)
+      let tests = lower-exact {a = before} as-is (lower-exact {a = given} as-is (lit-exact (planIn w))) in
+      let x = lower-exact {b = panelsNumber q (panels w f)} (lower-exact {b = treeNumber 1 w f} tests as-is) as-is
+      .0 answered in
+      field-stands (x .0 .0 .1 .1 .solids .counts .objects) (x .0 .1)
 
 -- the lights that such a call goes through are all of the plan's
 pub panels-all : (w : List ℕ) (f : List Float) → litNumber (planOf w f) ≡ 0 → panels w f ≡ planOf w f .lights
 panels-all w f e = take-all 16 (planOf w f .lights) (lit-exact (planOf w f) .0 e .solids .counts .lights)
-
--- a reply whose number is 0 was not refused, and is the answer
-pub not-refused : (n : ℕ) (r : Reply) → replyOf n r .number ≡ 0 → (n ≡ 0) × (replyOf n r ≡ r)
-unfolding replyOf refusedReply
-not-refused zero r e = (refl, refl)
-not-refused (suc n) r e = let z : suc n ≡ 0 = rw (eqb·suc-zero n) at e in absurd (omega arith)

@@ -2,8 +2,8 @@
 use Prim.Native.Nat.{ℕ, _*_, _≤_, _<_}
 use mathlib.Core.Path.{_≡_, refl, sym, _∙_}
 use mathlib.Core.Logic.{_↔_, _⊎_, inl, inr, ⊎-elim}
-use mathlib.Core.Bool.{Bool, true, false, cond}
-use mathlib.Core.List.{List}
+use mathlib.Core.Bool.{Bool, true, cond}
+use mathlib.Core.List.{List, []}
 use native.Mathlib.Decide.{decLe}
 use native.Mathlib.Omega.{arith}
 use lib.Dec.{ltb, eqb}
@@ -11,11 +11,12 @@ use lib.ListN.{length, length-replicate}
 use borrow.Author.Tests.{ltb-true, lt-ltb, le-ltb, eq-eqb, ne-eqb}
 use Rattle.words.specs.Words.{wordsOf, withWords}
 use Rattle.words.proofs.Laws.{less-or}
-use Rattle.refusals.specs.Refusals.{tooDeep, unless}
+use Rattle.refusals.specs.Refusals.{tooDeep, unless, lower}
 use Rattle.refusals.proofs.Lowest.{unless-zero}
 use Rattle.plan.specs.Sections.{nodesWords, orderPlaces}
 use Rattle.plan.specs.Plan.{Plan}
 use Rattle.plan_test.specs.Exact.{SoundObjects}
+use Rattle.plan_test.proofs.Exact.{objects-exact}
 use Rattle.bvh_rules.specs.Rules.{size, depth}
 use Rattle.bvh_build.specs.Encode.{encode, laid}
 use Rattle.bvh_build.specs.Tables.{builtOf, sizeOf, lowEnough, nodesWith, orderWith}
@@ -27,9 +28,12 @@ use Rattle.wire.specs.Sent.{treeTablesBefore}
 use Rattle.bemitondry_tree.specs.Trees.{noNodes, noOrder, buildNumber}
 use Rattle.viewer.specs.Trees.{buildStores, builtWords, BuildSent}
 use Rattle.promises.specs.Bytes.{planAt, nodeWords, orderWords, FullPlan, FullTree}
+use Rattle.promises.specs.Demand1.{Lent}
 use Rattle.promises.specs.Demand3.{BuildKeeps}
-use Rattle.promises.proofs.Loaded.{stored-words}
-use Rattle.promises.proofs.Numbers.{all-full, of-sound, sent-number, sent-word}
+use Rattle.promises.proofs.Cases.{either}
+use Rattle.promises.proofs.Lengths.{lent-tree-exact}
+use Rattle.promises.proofs.Tables.{stored-words}
+use Rattle.promises.proofs.Replies.{sent-number, sent-word}
 
 -- ---- what is built
 module _ (p : Plan) where
@@ -57,8 +61,7 @@ module _ (p : Plan) where
       ]
 
 over-length : (b : Bool) (xs ys : List ℕ) → length (cond b xs (laid xs 0 ys)) ≡ length xs
-over-length true xs ys = refl
-over-length false xs ys = length-laid xs 0 ys
+over-length b xs ys = either (λ (l : List ℕ). length l ≡ length xs) b xs (laid xs 0 ys) refl (length-laid xs 0 ys)
 
 nodes-length : (p : Plan) (nodes : List ℕ) → length (nodesWith p nodes) ≡ length nodes
 unfolding nodesWith
@@ -69,7 +72,7 @@ unfolding orderWith
 order-length p order = over-length (eqb (length (p .objects)) 0) order (builtOf p .order)
 
 -- ---- what is stored of a build whose number is 0
-stored
+built-words
     : (number n : ℕ) (b b′ ws none : List ℕ)
     → number ≡ 0
     → length ws ≡ n
@@ -77,12 +80,11 @@ stored
     → b′ ≡ cond (buildStores number) (withWords b (builtWords number ws none)) b
     → wordsOf b′ n ≡ ws
 unfolding buildStores
-stored number n b b′ ws none z l h e = rw (e, z) (stored-words b ws n l h)
+built-words number n b b′ ws none z l h e = rw (e, z) (stored-words b ws n l h)
 
-one-of : (b : Bool) → (unless tooDeep b ≡ 0) ⊎ (unless tooDeep b ≡ tooDeep)
+none-or-deep : (b : Bool) → (unless tooDeep b ≡ 0) ⊎ (unless tooDeep b ≡ tooDeep)
 unfolding unless
-one-of true = inl refl
-one-of false = inr refl
+none-or-deep b = either (λ (n : ℕ). (n ≡ 0) ⊎ (n ≡ tooDeep)) b 0 tooDeep (inl refl) (inr refl)
 
 -- ---- a build
 module _ (plan nodes order out : List ℕ) (n : ℕ) (nodes′ order′ out′ : List ℕ) (fp : FullPlan plan)
@@ -95,36 +97,36 @@ module _ (plan nodes order out : List ℕ) (n : ℕ) (nodes′ order′ out′ :
     abbrev number : ℕ
     number = buildNumber (treeTablesBefore (length plan) (length nodes) (length order) 0 0 (length out)) P
 
-    number-is : number ≡ unless tooDeep (lowEnough P)
-    unfolding buildNumber
-    number-is =
-        of-sound (treeTablesBefore (length plan) (length nodes) (length order) 0 0 (length out)) P
-        (unless tooDeep (lowEnough P)) (all-full plan nodes order out fp ft fo) sound
+    number-depth : number ≡ unless tooDeep (lowEnough P)
+    unfolding buildNumber lower
+    number-depth =
+        let lent : Lent 0 plan [] out = record { plan-full = fp; args-full = omega arith; out-full = fo } in
+        rw (lent-tree-exact 0 plan nodes order [] out .1 (lent, ft), objects-exact P .1 sound)
 
     sent-is : n ≡ number
-    sent-is = sent-number number (sizeOf P) (sent .sent)
+    sent-is = sent-number _ _ (sent .sent)
 
-    low-is : n ≡ unless tooDeep (lowEnough P)
-    low-is = sent-is ∙ number-is
+    sent-depth : n ≡ unless tooDeep (lowEnough P)
+    sent-depth = sent-is ∙ number-depth
 
     nodes-are : n ≡ 0 → nodeWords nodes′ ≡ nodesWith P noNodes
     nodes-are z =
-        stored number nodesWords nodes nodes′ (nodesWith P noNodes) noNodes (sym sent-is ∙ z)
+        built-words number nodesWords nodes nodes′ (nodesWith P noNodes) noNodes (sym sent-is ∙ z)
         (nodes-length P noNodes ∙ length-replicate {A = ℕ} nodesWords 0) (ft .nodes-full) (sent .nodes-is)
 
     order-are : n ≡ 0 → orderWords order′ ≡ orderWith P noOrder
     order-are z =
-        stored number orderPlaces order order′ (orderWith P noOrder) noOrder (sym sent-is ∙ z)
+        built-words number orderPlaces order order′ (orderWith P noOrder) noOrder (sym sent-is ∙ z)
         (order-length P noOrder ∙ length-replicate {A = ℕ} orderPlaces 0) (ft .order-full) (sent .order-is)
 
     low : n ≡ 0 → lowEnough P ≡ true
-    low z = unless-zero 6 (lowEnough P) .0 (sym low-is ∙ z)
+    low z = unless-zero 6 (lowEnough P) .0 (sym sent-depth ∙ z)
 
     pub build-keeps : BuildKeeps plan out n nodes′ order′ out′
     build-keeps =
         record {
-          one = rw low-is (one-of (lowEnough P));
-          deep = rw low-is (deep-exact P);
+          one = rw sent-depth (none-or-deep (lowEnough P));
+          deep = rw sent-depth (deep-exact P);
           stands = λ z. rw (nodes-are z, order-are z) (built-low P sound (low z));
           same = λ z some.
               rw (nodes-are z, order-are z)
@@ -132,8 +134,8 @@ module _ (plan nodes order out : List ℕ) (n : ℕ) (nodes′ order′ out′ :
                 holds = built-holds P sound some;
                 low = omega (arith, ltb-true (deepest P) 64 (sym (of-some P some .0) ∙ low z));
               });
-          size-sent = λ z some. sent-word number (sizeOf P) (sent .sent) (sym sent-is ∙ z) (of-some P some .1);
+          size-sent = λ z some. sent-word _ _ (sent .sent) (sym sent-is ∙ z) (of-some P some .1);
           none-sent = λ none.
               let made = of-none P none in
-              sent-word number (sizeOf P) (sent .sent) (number-is ∙ unless-zero 6 (lowEnough P) .1 (made .0)) (made .1);
+              sent-word _ _ (sent .sent) (number-depth ∙ unless-zero 6 (lowEnough P) .1 (made .0)) (made .1);
         }

@@ -1,11 +1,10 @@
--- A plan that the tests pass is one that a run of entries makes, but for its materials' numbers, which no test reads:
--- its rows are lent again, one list after the other. By induction on each list. Assumes nothing.
+-- A plan that passes is one that entries make, but for materials: row by row it is lent again. Assumes nothing.
 use Prim.Native.Nat.{ℕ, zero, suc, _+_, _*_, _<_, _≤_}
 use native.Mathlib.Nat.{add-zero, zero-add}
 use native.Mathlib.Omega.{arith}
-use mathlib.Core.Path.{_≡_, sym, _∙_, ap, subst}
+use mathlib.Core.Path.{_≡_, refl, sym, _∙_, ap, subst}
 use mathlib.Core.Logic.{_↔_}
-use mathlib.Core.Bool.{Bool, true, false, cond}
+use mathlib.Core.Bool.{Bool, true, false}
 use mathlib.Core.List.{List, [], _∷_, _++_}
 use lib.ListN.{length}
 use lib.Dec.{ltb}
@@ -16,19 +15,19 @@ use Rattle.plan.specs.Sections.{materials, planes, lights, objects}
 use Rattle.plan.specs.declared.Head.{Head}
 use Rattle.plan.specs.declared.Material.{Material}
 use Rattle.plan.specs.declared.QuadLight.{QuadLight}
-use Rattle.plan.specs.Records.{wordOf, materialAt, lightIn, headAt}
+use Rattle.plan.specs.Records.{wordOf, lightIn, headAt}
 use Rattle.plan.specs.Plan.{Piece, Plan, pieceAt, piecesFrom, countOf, planOf, seen, planIn}
 use Rattle.plan_test.specs.Tests.{cuttersOf, litNumber}
 use Rattle.plan_test.specs.Exact.{PieceOk, PlaceIs, PlacesAre, LightOk, CountsOk, SoundLit}
 use Rattle.plan_test.proofs.Exact.{lit-exact}
 use Rattle.wire.specs.Lent.{planTable}
-use Rattle.promises.specs.Bytes.{planAt, FullPlan}
-use Rattle.promises.specs.Demand1.{Run}
-use Rattle.promises.proofs.Demand1.{demand-one}
-use Rattle.promises.proofs.Small.{Small, table-small}
-use Rattle.promises.proofs.Given.{headBy, pieceBy, rowsOf, piece-by}
-use Rattle.promises.proofs.Reached.{Lends, Reached, plainMaterial, reach-none, reach-material, reach-light}
-use Rattle.promises.proofs.Reached.{reach-plane, reach-object}
+use Rattle.promises.specs.Bytes.{planAt}
+use Rattle.promises.proofs.Cases.{either}
+use Rattle.promises.proofs.Counts.{materials-of, lights-of, pieces-of}
+use Rattle.promises.proofs.Demand1.Small.{Small, table-small}
+use Rattle.promises.proofs.Demand1.Given.{headBy, pieceBy, rowsOf, piece-by}
+use Rattle.promises.proofs.Demand1.Reached.{Reached, plainMaterial, reached-sound, reach-none, reach-material}
+use Rattle.promises.proofs.Demand1.Reached.{reach-light, reach-plane, reach-object}
 
 -- ---- piece k of a list of pieces: its place, and the room that it leaves
 module _ (among : Bool) (f : ℕ → Piece) where
@@ -57,11 +56,7 @@ fits false before h p l = omega arith
 
 rows-small : (w : List ℕ) → ((i : ℕ) → Small (wordOf w i)) → (r k : ℕ) → Small (rowsOf w r k)
 unfolding rowsOf
-rows-small w s r k = pick (ltb k 16) (s (16 * r + k)) (s (16 * (368 + headAt w (seen w) r .place) + k))
-  where
-    pick : (b : Bool) {x y : ℕ} → Small x → Small y → Small (cond b x y)
-    pick true p q = p
-    pick false p q = q
+rows-small w s r k = either Small (ltb k 16) _ _ (s (16 * r + k)) (s (16 * (368 + headAt w (seen w) r .place) + k))
 
 -- ---- the pieces of a table, lent one after the other: `put` is the plan with a list of pieces
 module _ (among : Bool) (m : ℕ) (w : List ℕ) (small : (i : ℕ) → Small (wordOf w i)) (a n : ℕ)
@@ -115,14 +110,12 @@ fill-materials (suc m) h =
 
 -- what entries make of a plan
 pub record Remade (p : Plan) : Type 0 where
-  pub plan : List ℕ
-  pub run : Run plan
-  pub lent : Lends run
-  pub full : FullPlan plan
-  pub materials-as-many : length (planAt plan .materials) ≡ length (p .materials)
-  pub planes-same : planAt plan .planes ≡ p .planes
-  pub lights-same : planAt plan .lights ≡ p .lights
-  pub objects-same : planAt plan .objects ≡ p .objects
+  pub made : Plan
+  pub reached : Reached made
+  pub materials-as-many : length (made .materials) ≡ length (p .materials)
+  pub planes-same : made .planes ≡ p .planes
+  pub lights-same : made .lights ≡ p .lights
+  pub objects-same : made .objects ≡ p .objects
 
 module _ (w : List ℕ) (small : (i : ℕ) → Small (wordOf w i)) (s : SoundLit (planIn w)) where
   abbrev p : Plan
@@ -134,19 +127,15 @@ module _ (w : List ℕ) (small : (i : ℕ) → Small (wordOf w i)) (s : SoundLit
   few : CountsOk p
   few = s .solids .counts
 
-  materials-are : length (p .materials) ≡ m
-  unfolding planOf
-  materials-are = length-from (materialAt (seen w)) 1 m
-
   as-many : length (listFrom plain 0 m) ≡ length (p .materials)
-  as-many = length-from plain 0 m ∙ sym materials-are
+  as-many = length-from plain 0 m ∙ sym (materials-of w)
 
   fill-planes : Reached (planOfLists m [] [] []) → Reached (planOfLists m (p .planes) [] [])
   unfolding planOf piecesFrom cuttersOf
   fill-planes =
       let n : ℕ = countOf planes w in
       let room = s .solids .room in
-      let most : n ≤ 16 = rw (length-from (pieceAt w (seen w)) 65 n) at (few .planes) in
+      let most : n ≤ 16 = rw (pieces-of true w) at (few .planes) in
       refill true (length (p .materials)) w small 65 n (omega arith) (λ os. planOfLists m os [] [])
       (s .solids .planes .places) (s .solids .planes .each) (omega arith)
       (λ os g b ok at l part r.
@@ -161,7 +150,7 @@ module _ (w : List ℕ) (small : (i : ℕ) → Small (wordOf w i)) (s : SoundLit
   fill-objects ls =
       let n : ℕ = countOf objects w in
       let room = s .solids .room in
-      let most : n ≤ 256 = rw (length-from (pieceAt w (seen w)) 113 n) at (few .objects) in
+      let most : n ≤ 256 = rw (pieces-of false w) at (few .objects) in
       refill false (length (p .materials)) w small 113 n (omega arith) (λ os. planOfLists m (p .planes) ls os)
       (s .solids .objects .places) (s .solids .objects .each) (omega arith)
       (λ os g b ok at l part r.
@@ -177,7 +166,7 @@ module _ (w : List ℕ) (small : (i : ℕ) → Small (wordOf w i)) (s : SoundLit
   fill-lights ps zero h r = r
   fill-lights ps (suc k) h r =
       let n : ℕ = countOf lights w in
-      let most : n ≤ 16 = rw (length-from (lightIn (seen w)) 0 n) at (few .lights) in
+      let most : n ≤ 16 = rw (lights-of w) at (few .lights) in
       let ok = all-from LightOk (lightIn (seen w)) 0 n (s .lights) k (omega arith) in
       subst (λ (ls : List QuadLight). Reached (planOfLists m ps ls [])) (sym (from-snoc (lightIn (seen w)) 0 k))
       (reach-light (fill-lights ps k (omega arith) r) w (81 + 2 * (0 + k)) (omega arith) small ok
@@ -187,20 +176,17 @@ module _ (w : List ℕ) (small : (i : ℕ) → Small (wordOf w i)) (s : SoundLit
   unfolding planOf
   remade =
       let c = few .materials in
-      let planes = fill-planes (fill-materials m (omega (arith, materials-are))) in
-      let r = fill-objects (p .lights) (fill-lights (p .planes) (countOf lights w) (omega arith) planes) in
+      let planes = fill-planes (fill-materials m (omega (arith, materials-of w))) in
       record {
-        plan = r .plan;
-        run = r .run;
-        lent = r .lent;
-        full = r .full;
-        materials-as-many = ap (λ (q : Plan). length (q .materials)) (r .is) ∙ as-many;
-        planes-same = ap (λ (q : Plan). q .planes) (r .is);
-        lights-same = ap (λ (q : Plan). q .lights) (r .is);
-        objects-same = ap (λ (q : Plan). q .objects) (r .is);
+        made = planOfLists m (p .planes) (p .lights) (p .objects);
+        reached = fill-objects (p .lights) (fill-lights (p .planes) (countOf lights w) (omega arith) planes);
+        materials-as-many = as-many;
+        planes-same = refl;
+        lights-same = refl;
+        objects-same = refl;
       }
 
-pub passes-made : (plan : List ℕ) → Bytes plan → SoundLit (planAt plan) → Remade (planAt plan)
+passes-made : (plan : List ℕ) → Bytes plan → SoundLit (planAt plan) → Remade (planAt plan)
 passes-made plan b s = remade (planTable 0 plan []) (table-small 0 plan [] b (λ k. omega arith)) s
 
 -- the test of a whole plan passes it exactly then
@@ -238,6 +224,6 @@ passes-exactly plan b =
       λ z. passes-made plan b (e .0 z),
       λ r.
           e .1
-          (sound-by (planAt plan) (planAt (r .plan)) (r .materials-as-many) (r .planes-same) (r .lights-same)
-          (r .objects-same) (demand-one .runs-pass (r .run) .0)),
+          (sound-by (planAt plan) (r .made) (r .materials-as-many) (r .planes-same) (r .lights-same) (r .objects-same)
+          (reached-sound (r .reached))),
     )

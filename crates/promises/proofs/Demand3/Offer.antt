@@ -2,7 +2,6 @@
 use Prim.Native.Nat.{ℕ, _+_, _*_, _≤_, _<_}
 use mathlib.Core.Path.{_≡_, refl, sym, _∙_, ap}
 use mathlib.Core.Logic.{_⊎_, inl, inr, ⊎-elim}
-use mathlib.Core.Bool.{Bool, true, false, cond}
 use mathlib.Core.List.{List, []}
 use native.Mathlib.Omega.{arith}
 use lib.ListN.{length, drop}
@@ -17,6 +16,7 @@ use Rattle.plan.specs.Sections.{nodesFirst, nodesWords, orderFirst, orderPlaces
 use Rattle.plan.specs.Records.{wordOf}
 use Rattle.plan.specs.Plan.{planIn, seen}
 use Rattle.plan_test.specs.Exact.{SoundObjects}
+use Rattle.plan_test.proofs.Exact.{objects-exact}
 use Rattle.bvh_boxes.specs.Boxes.{boxesOf}
 use Rattle.bvh_boxes.proofs.Lists.{boxes-length}
 use Rattle.bvh_rules.specs.Nodes.{nodesOf, orderOf}
@@ -28,16 +28,18 @@ use Rattle.bvh_rules.proofs.Root.{judge-exact}
 use Rattle.bvh_rules.proofs.Exact.{offered-exact, offered-deep, offered-bad}
 use Rattle.bvh_rules.proofs.Trees.{weight-above, stands-fit}
 use Rattle.wire.specs.Lent.{outBytes}
-use Rattle.bemitondry_tree.specs.Trees.{offerNumber, offeredTree, judgedTree, sizeIn, frontWord}
-use Rattle.bemitondry_tree.specs.Trees.{offeredNodes, offeredOrder}
+use Rattle.bemitondry_tree.specs.Trees.{offerNumber, offeredTree, judgedTree, sizeIn, frontWord, offeredNodes}
+use Rattle.bemitondry_tree.specs.Trees.{offeredOrder}
 use Rattle.viewer.specs.Trees.{offerTable, offerBefore, OfferSent}
-use Rattle.promises.specs.Bytes.{planAt, nodeWords, nodeFloats, orderWords, AcceptedTree}
-use Rattle.promises.specs.Bytes.{FullPlan, FullTree}
+use Rattle.promises.specs.Bytes.{planAt, nodeWords, nodeFloats, orderWords, AcceptedTree, FullPlan, FullTree}
+use Rattle.promises.specs.Demand1.{Lent}
 use Rattle.promises.specs.Demand3.{OfferKeeps}
-use Rattle.promises.proofs.Loaded.{length-words, stored-words}
-use Rattle.promises.proofs.Numbers.{tables-full, all-full, of-sound, sent-number, sent-word}
-use Rattle.promises.proofs.Objects.{ask-sound, ask-nodes, ask-order, ask-reads}
-use Rattle.promises.proofs.SameTree.{accepted-same}
+use Rattle.promises.proofs.Cases.{either}
+use Rattle.promises.proofs.Lengths.{tree-exact, lent-tree-exact}
+use Rattle.promises.proofs.Tables.{length-words, stored-words}
+use Rattle.promises.proofs.Replies.{sent-number, sent-word}
+use Rattle.promises.proofs.Demand3.Asked.{ask-sound, ask-nodes, ask-order, ask-reads}
+use Rattle.promises.proofs.Demand3.SameTree.{accepted-same}
 
 -- ---- the words that an offer stores
 -- the first k words of a part of the table
@@ -57,22 +59,18 @@ unfolding nodesOf
 nodes-here t i h = getD-take nodesWords (drop nodesFirst t) i 0 h ∙ getD-drop nodesFirst t i 0
 
 -- ---- what the judge may send
-one-of : (w : List ℕ) (f : List Float) (o : List ℕ) (bs : List Aabb)
-    → (offeredNumber w f o bs ≡ 0) ⊎ ((offeredNumber w f o bs ≡ badTree) ⊎ (offeredNumber w f o bs ≡ tooDeep))
+none-bad-or-deep : (w : List ℕ) (f : List Float) (o : List ℕ) (bs : List Aabb)
+    → (offeredNumber w f o bs ≡ 0)
+    ⊎ ((offeredNumber w f o bs ≡ badTree) ⊎ (offeredNumber w f o bs ≡ tooDeep))
 unfolding offeredNumber
-one-of w f o bs = go (isGood (judgeOf 64 w f o bs)) (isGood (judgeOf 256 w f o bs))
-  where
-    go
-        : (a b : Bool)
-        → (cond a 0 (cond b tooDeep badTree) ≡ 0)
-        ⊎ ((cond a 0 (cond b tooDeep badTree) ≡ badTree) ⊎ (cond a 0 (cond b tooDeep badTree) ≡ tooDeep))
-    go true b = inl refl
-    go false true = inr (inr refl)
-    go false false = inr (inl refl)
+none-bad-or-deep w f o bs =
+    let One : ℕ → Type 0 = λ n. (n ≡ 0) ⊎ ((n ≡ badTree) ⊎ (n ≡ tooDeep)) in
+    either One (isGood (judgeOf 64 w f o bs)) 0 _ (inl refl)
+    (either One (isGood (judgeOf 256 w f o bs)) tooDeep badTree (inr (inr refl)) (inr (inl refl)))
 
 -- ---- an offer
-module _ (plan nodes order given ranks out : List ℕ) (n : ℕ) (nodes′ order′ out′ : List ℕ) (fp : FullPlan plan)
-    (ft : FullTree nodes order) (fg : FullTree given ranks) (fo : outBytes ≤ length out)
+module _ (plan nodes order given ranks out : List ℕ) (n : ℕ) (nodes′ order′ out′ : List ℕ)
+    (fp : FullPlan plan) (ft : FullTree nodes order) (fg : FullTree given ranks) (fo : outBytes ≤ length out)
     (sound : SoundObjects (planAt plan)) (sent : OfferSent plan nodes order given ranks out n nodes′ order′ out′)
   where
     abbrev W : List ℕ
@@ -97,17 +95,19 @@ module _ (plan nodes order given ranks out : List ℕ) (n : ℕ) (nodes′ order
     abbrev number : ℕ
     number = offerNumber (offerBefore plan nodes order given ranks out) W (seen W)
 
-    number-is : number ≡ offeredNumber NW NF OW BS
+    number-judged : number ≡ offeredNumber NW NF OW BS
     unfolding offerNumber offeredTree lower
-    number-is =
-        let none : offerBefore plan nodes order given ranks out ≡ 0
-        = rw (all-full plan nodes order out fp ft fo, tables-full given ranks fg) in
-        of-sound (offerBefore plan nodes order given ranks out) (planIn W) (offeredTree W (seen W)) none
-        (ask-sound 0 plan given ranks [] sound)
-        ∙ ask-reads 0 plan given ranks [] fg offeredNumber plan sound refl
+    number-judged =
+        let lent : Lent 0 plan [] out = record { plan-full = fp; args-full = omega arith; out-full = fo } in
+        rw (
+          lent-tree-exact 0 plan nodes order [] out .1 (lent, ft),
+          tree-exact given ranks .1 fg,
+          objects-exact (planIn W) .1 (ask-sound 0 plan given ranks [] sound),
+        )
+        (ask-reads 0 plan given ranks [] fg offeredNumber plan sound refl)
 
-    judge-is : n ≡ offeredNumber NW NF OW BS
-    judge-is = sent-number number _ (sent .sent) ∙ number-is
+    sent-judged : n ≡ offeredNumber NW NF OW BS
+    sent-judged = sent-number _ _ (sent .sent) ∙ number-judged
 
     long : length NW ≡ nodesWords
     long = length-words given nodesWords
@@ -119,7 +119,7 @@ module _ (plan nodes order given ranks out : List ℕ) (n : ℕ) (nodes′ order
     module _ (t : Tree) (a : AcceptedTree plan given ranks t) where
       zero : number ≡ 0
       unfolding MeetsRules
-      zero = number-is ∙ offered-exact NW NF OW BS long few .1 (inr (t, a))
+      zero = number-judged ∙ offered-exact NW NF OW BS long few .1 (inr (t, a))
 
       some : 0 < length BS
       some = omega (arith, weight-above NW NF 0 0 t (a .holds .stands), a .holds .all)
@@ -170,16 +170,17 @@ module _ (plan nodes order given ranks out : List ℕ) (n : ℕ) (nodes′ order
     offer-keeps =
         let exact = offered-exact NW NF OW BS long few in
         record {
-          one = rw judge-is (one-of NW NF OW BS);
-          taken = rw judge-is exact;
-          deep = rw judge-is (offered-deep NW NF OW BS long few);
-          bad = rw (judge-is, sym (boxes-length (planAt plan))) (offered-bad NW NF OW BS long few);
+          one = rw sent-judged (none-bad-or-deep NW NF OW BS);
+          taken = rw sent-judged exact;
+          deep = rw sent-judged (offered-deep NW NF OW BS long few);
+          bad = rw (sent-judged, sym (boxes-length (planAt plan))) (offered-bad NW NF OW BS long few);
           stands = λ z.
-              ⊎-elim (λ none. inl none) (λ p. inr (p .0, same-tree (p .0) (p .1))) (exact .0 (sym judge-is ∙ z));
+              ⊎-elim (λ none. inl none) (λ p. inr (p .0, same-tree (p .0) (p .1)))
+              (exact .0 (sym sent-judged ∙ z));
           same = same-tree;
-          size-sent = λ t a. sent-word number _ (sent .sent) (zero t a) (sized t a);
+          size-sent = λ t a. sent-word _ _ (sent .sent) (zero t a) (sized t a);
           none-sent = λ none.
               let e : length BS ≡ 0 = boxes-length (planAt plan) ∙ none in
-              sent-word number _ (sent .sent) (number-is ∙ exact .1 (inl e))
+              sent-word _ _ (sent .sent) (number-judged ∙ exact .1 (inl e))
               (ap sizeIn (judged ∙ sym (judge-none 64 NW NF OW BS (length BS) refl e)));
         }

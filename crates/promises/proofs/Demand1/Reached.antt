@@ -1,10 +1,9 @@
--- Plans that runs of entries make, told by their values: the empty one, and such a plan with one record more that an
--- entry takes. The records' words are lent, and each entry's theorem says what is left. Assumes nothing.
+-- Plans that runs of entries make, by their values: each record's words are lent, and taken. Assumes nothing.
 use Prim.Native.Nat.{ℕ, _+_, _*_, _<_, _≤_}
 use native.Mathlib.Omega.{arith}
 use mathlib.Core.Path.{_≡_, refl, sym, _∙_, ap, subst}
 use mathlib.Core.Bool.{Bool, true, false, cond}
-use mathlib.Core.List.{List, []}
+use mathlib.Core.List.{List}
 use lib.ListN.{length, take, replicate, length-replicate}
 use lib.Dec.{eqb}
 use lib.Ieee.{Float, binary32, ofBits, le}
@@ -32,39 +31,42 @@ use Rattle.viewer.specs.Entries.{EntrySent, objectBefore}
 use Rattle.promises.specs.Bytes.{planAt, FullPlan, FullTree}
 use Rattle.promises.specs.Demand1.{Lent, MaterialOk, MaterialTaken, LightTaken, listOf, PieceTaken, entering}
 use Rattle.promises.specs.Demand1.{Run, start, material, light, plane, object, emptyPlan}
-use Rattle.promises.proofs.Entries.{Entry, enters, material-entry, light-entry, plane-entry, object-entry}
-use Rattle.promises.proofs.Demand1.{demand-one}
-use Rattle.promises.proofs.Small.{Small, bytes-zero, given-bytes}
-use Rattle.promises.proofs.Given.{bytesOf, length-bytes, given-word, headBy, pieceBy, given-head, given-cuts}
+use Rattle.promises.proofs.Demand1.Entries.{Entry, entry-enters, material-entry, light-entry, plane-entry}
+use Rattle.promises.proofs.Demand1.Entries.{object-entry}
+use Rattle.promises.proofs.Alone.{alone}
+use Rattle.promises.proofs.Demand1.Runs.{zero-bytes, runs-pass}
+use Rattle.promises.proofs.Demand1.Small.{Small, bytes-zero, given-bytes}
+use Rattle.promises.proofs.Demand1.Given.{bytesOf, length-bytes, given-word, headBy, pieceBy, given-head}
+use Rattle.promises.proofs.Demand1.Given.{given-cuts}
 
 -- every list that is lent in a run is of bytes
-abbrev pub Lends : {plan : List ℕ} → Run plan → Type 0
-Lends (start k) = Unit {0}
-Lends (material args out n plan′ out′ r e) = (Bytes args × Bytes out) × Lends r
-Lends (light args out n plan′ out′ r e) = (Bytes args × Bytes out) × Lends r
-Lends (plane args out n plan′ out′ r e) = (Bytes args × Bytes out) × Lends r
-Lends (object nodes order args out n plan′ nodes′ order′ out′ r e) =
-    ((Bytes nodes × Bytes order) × (Bytes args × Bytes out)) × Lends r
+abbrev pub OfBytes : {plan : List ℕ} → Run plan → Type 0
+OfBytes (start k) = Unit {0}
+OfBytes (material args out n plan′ out′ r e) = (Bytes args × Bytes out) × OfBytes r
+OfBytes (light args out n plan′ out′ r e) = (Bytes args × Bytes out) × OfBytes r
+OfBytes (plane args out n plan′ out′ r e) = (Bytes args × Bytes out) × OfBytes r
+OfBytes (object nodes order args out n plan′ nodes′ order′ out′ r e) =
+    ((Bytes nodes × Bytes order) × (Bytes args × Bytes out)) × OfBytes r
 
 -- full bytes that a run makes, and that hold the plan p
 pub record Reached (p : Plan) : Type 0 where
   pub plan : List ℕ
   pub run : Run plan
-  pub lent : Lends run
+  pub bytes : OfBytes run
   pub full : FullPlan plan
   pub is : planAt plan ≡ p
 
-zeros-long : (n k : ℕ) → n ≤ k → n ≤ length {A = ℕ} (replicate k 0)
-zeros-long n k h = rw (length-replicate {A = ℕ} k 0) h
+zeros-long : (k : ℕ) → k ≤ length {A = ℕ} (replicate k 0)
+zeros-long k = rw (length-replicate {A = ℕ} k 0) (omega arith)
 
 pub reach-none : Reached emptyPlan
 reach-none =
     record {
       plan = replicate planBytes 0;
       run = start planBytes;
-      lent = tt;
-      full = zeros-long planBytes planBytes (omega arith);
-      is = demand-one .zero-bytes planBytes;
+      bytes = tt;
+      full = zeros-long planBytes;
+      is = zero-bytes planBytes;
     }
 
 -- ---- an entry that is taken
@@ -80,7 +82,8 @@ sends
     EntrySent number index left plan out (r .number) (stores number left plan) (sentWords out (r .words))
 sends number index left plan = record { sent = record { number-is = refl; out-is = refl }; plan-is = refl }
 
-stores-full : (number : ℕ) (left plan : List ℕ) → number ≡ 0 → FullPlan plan → FullPlan (stores number left plan)
+stores-full
+    : (number : ℕ) (left plan : List ℕ) → number ≡ 0 → FullPlan plan → FullPlan (stores number left plan)
 stores-full number left plan z h =
     subst (λ (m : ℕ). FullPlan (stores m left plan)) (sym z) (rw (length-puts plan 0 (take planWords left)) h)
 
@@ -90,33 +93,33 @@ step
     → L × Taken
     → FullPlan plan
     → (r : Run (stores number left plan))
-    → Lends r
+    → OfBytes r
     → Reached after
 step {number} {need} {plan} {args} {left} e t h r b =
-    let x = enters e (sends number 0 left plan) in
-    let sound = demand-one .runs-pass r .0 .solids in
+    let x = entry-enters e (sends number 0 left plan) in
+    let sound = runs-pass r .0 .solids in
     record {
       plan = stores number left plan;
       run = r;
-      lent = b;
+      bytes = b;
       full = stores-full number left plan (e .exactly .1 t) h;
-      is = sym (demand-one .alone need (stores number left plan) args sound) ∙ x .entered (x .exactly .1 t);
+      is = sym (alone need (stores number left plan) args sound) ∙ x .entered (x .exactly .1 t);
     }
 
 -- the plan that such bytes hold is sound, and is read so whatever is lent after it
 module _ {p : Plan} (r : Reached p) where
   pub reached-sound : SoundLit p
-  reached-sound = subst SoundLit (r .is) (demand-one .runs-pass (r .run) .0)
+  reached-sound = subst SoundLit (r .is) (runs-pass (r .run) .0)
 
   read : (need : ℕ) (args : List ℕ) → planIn (planTable need (r .plan) args) ≡ p
-  read need args = demand-one .alone need (r .plan) args (demand-one .runs-pass (r .run) .0 .solids) ∙ r .is
+  read need args = alone need (r .plan) args (runs-pass (r .run) .0 .solids) ∙ r .is
 
-  lends : (need : ℕ) (g : ℕ → ℕ) → need ≤ 576 → Lent need (r .plan) (bytesOf g) out
-  lends need g h =
+  lent-all : (need : ℕ) (g : ℕ → ℕ) → need ≤ 576 → Lent need (r .plan) (bytesOf g) out
+  lent-all need g h =
       record {
         plan-full = r .full;
         args-full = rw (length-bytes g) h;
-        out-full = zeros-long outBytes outBytes (omega arith);
+        out-full = zeros-long outBytes;
       }
 
 -- ---- a material of zeros
@@ -156,9 +159,9 @@ reach-material {p} r h =
       room = rw same h;
     } in
     subst Reached (rw (same, own))
-    (step e (lends r 20 noWords (omega arith), taken) (r .full)
+    (step e (lent-all r 20 noWords (omega arith), taken) (r .full)
     (material args out _ _ _ (r .run) (sends _ (countOf materials w) _ plan))
-    ((given-bytes noWords (λ i. omega arith), bytes-zero outBytes), r .lent))
+    ((given-bytes noWords (λ i. omega arith), bytes-zero outBytes), r .bytes))
 
 -- ---- a light that stands in a row of some table
 pub reach-light
@@ -187,9 +190,9 @@ reach-light {p} r t row l b ok h =
       room = rw same h;
     } in
     subst Reached (rw (same, own))
-    (step (light-entry plan args out) (lends r 60 g (omega arith), taken) (r .full)
+    (step (light-entry plan args out) (lent-all r 60 g (omega arith), taken) (r .full)
     (light args out _ _ _ (r .run) (sends _ (countOf lights w) _ plan))
-    ((given-bytes g (λ i. b (16 * row + i)), bytes-zero outBytes), r .lent))
+    ((given-bytes g (λ i. b (16 * row + i)), bytes-zero outBytes), r .bytes))
 
 -- ---- a piece by its words
 -- a new piece stands where its list goes on
@@ -247,12 +250,13 @@ module _ (among : Bool) {p : Plan} (r : Reached p) (g : ℕ → ℕ) (c : Comes 
 
   reach-by
       : (before : ℕ) (L : Type 0)
-      → Entry (pieceEntry before among on (seen on) (length given)) 64 (r .plan) given (pieceLeft among on (seen on)) L
-      (PieceTaken among (length given) on) (withOne among (planIn on) (entering among on))
+      → Entry (pieceEntry before among on (seen on) (length given)) 64 (r .plan) given
+      (pieceLeft among on (seen on)) L (PieceTaken among (length given) on)
+      (withOne among (planIn on) (entering among on))
       → L
       → (run
       : Run (stores (pieceEntry before among on (seen on) (length given)) (pieceLeft among on (seen on)) (r .plan)))
-      → Lends run
+      → OfBytes run
       → Reached (withOne among p (pieceBy g))
   reach-by before L e l run b =
       let t : L × PieceTaken among (length given) on = (l, piece-is-taken) in
@@ -262,17 +266,19 @@ module _ (among : Bool) {p : Plan} (r : Reached p) (g : ℕ → ℕ) (c : Comes 
       ∙ ap (withOne among p) (entering-is d) in
       subst Reached after (step e t (r .full) run b)
 
-pub reach-plane : {p : Plan} → Reached p → (g : ℕ → ℕ) → Comes true p g → Reached (withOne true p (pieceBy g))
+pub reach-plane
+    : {p : Plan} → Reached p → (g : ℕ → ℕ) → Comes true p g → Reached (withOne true p (pieceBy g))
 reach-plane r g c =
     let args : List ℕ = bytesOf g in
     let before : ℕ = planBefore (length (r .plan)) 64 (length args) (length out) in
     let w : List ℕ = planTable 64 (r .plan) args in
     reach-by true r g c before (Lent 64 (r .plan) args out) (plane-entry (r .plan) args out)
-    (lends r 64 g (omega arith))
+    (lent-all r 64 g (omega arith))
     (plane args out _ _ _ (r .run) (sends _ (countOf planes w) _ (r .plan)))
-    ((given-bytes g (c .small), bytes-zero outBytes), r .lent)
+    ((given-bytes g (c .small), bytes-zero outBytes), r .bytes)
 
-pub reach-object : {p : Plan} → Reached p → (g : ℕ → ℕ) → Comes false p g → Reached (withOne false p (pieceBy g))
+pub reach-object
+    : {p : Plan} → Reached p → (g : ℕ → ℕ) → Comes false p g → Reached (withOne false p (pieceBy g))
 reach-object r g c =
     let args : List ℕ = bytesOf g in
     let nodes : List ℕ = replicate nodesBytes 0 in
@@ -280,14 +286,14 @@ reach-object r g c =
     let w : List ℕ = planTable 64 (r .plan) args in
     let tree : FullTree nodes order
     = record {
-      nodes-full = zeros-long nodesBytes nodesBytes (omega arith);
-      order-full = zeros-long orderBytes orderBytes (omega arith);
+      nodes-full = zeros-long nodesBytes;
+      order-full = zeros-long orderBytes;
     } in
     reach-by false r g c (objectBefore (r .plan) nodes order args out)
     (Lent 64 (r .plan) args out × FullTree nodes order)
-    (object-entry (r .plan) args out nodes order) (lends r 64 g (omega arith), tree)
+    (object-entry (r .plan) args out nodes order) (lent-all r 64 g (omega arith), tree)
     (object nodes order args out _ _ _ _ _ (r .run)
     (record { piece = sends _ (countOf objects w) _ (r .plan); nodes-is = refl; order-is = refl })) (
       ((bytes-zero nodesBytes, bytes-zero orderBytes), (given-bytes g (c .small), bytes-zero outBytes)),
-      r .lent,
+      r .bytes,
     )

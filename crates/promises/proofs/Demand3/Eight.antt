@@ -30,30 +30,30 @@ use Rattle.bvh_boxes.proofs.Lists.{boxes-length}
 use Rattle.bvh_rules.specs.Check.{standingNumber}
 use Rattle.bvh_rules.proofs.Exact.{standing-exact}
 use Rattle.panel.specs.Panels.{panelOf, atLightNumber, panelsNumber}
-use Rattle.trace.specs.declared.Traced.{Traced}
-use Rattle.trace.specs.declared.Traced.the-variants.{Met, Missed}
 use Rattle.reply.specs.declared.Reply.{Reply}
 use Rattle.reply.specs.Reply.{doneReply, refusedReply, replyOf}
 use Rattle.wire.specs.Lent.{askTable, shortNumber}
 use Rattle.wire.specs.Sent.{argsBefore, planBefore, tablesBefore, treeBefore, askBefore}
 use Rattle.bemitondry_ask.specs.Asks.{foundReply, treeNumber, queryNumber, queryReply, solidsAsk, distMatReply}
-use Rattle.bemitondry_ask.specs.Marches.{tracedReply, traceReply, shadowReply}
+use Rattle.bemitondry_ask.specs.Marches.{traceReply, shadowReply}
 use Rattle.bemitondry_light.specs.Light.{litAsk, litReply, directReply, directDiffuseReply}
 use Rattle.viewer.specs.Calls.{Ask, askReply}
 use Rattle.promises.specs.Bytes.{planAt, nodeWords, nodeFloats, orderWords, TreeRules, FullTree}
 use Rattle.promises.specs.Demand3.{treeCalls}
 use Rattle.promises.proofs.Lowest.{lower-least}
-use Rattle.promises.proofs.Loaded.{length-words}
-use Rattle.promises.proofs.Objects.{ask-reads}
+use Rattle.promises.proofs.Cases.{either, _&_}
+use Rattle.promises.proofs.Replies.{traced-number}
+use Rattle.promises.proofs.Tables.{length-words}
+use Rattle.promises.proofs.Demand3.Asked.{ask-reads}
 
+-- another number than 8
 abbrev Other : ℕ → Type 0
 Other n = n ≡ noTree → ⊥
 
 -- ---- what numbers are made of
 -- a value's number, whichever of two it is
 other-of : {A : Type 0} (n : A → ℕ) (b : Bool) (x y : A) → Other (n x) → Other (n y) → Other (n (cond b x y))
-other-of n true x y p q = p
-other-of n false x y p q = q
+other-of n b x y p q = either (λ z. Other (n z)) b x y p q
 
 other-cond : (b : Bool) (x y : ℕ) → Other x → Other y → Other (cond b x y)
 other-cond b x y = other-of (λ n. n) b x y
@@ -65,7 +65,9 @@ other-unless : (n : ℕ) (b : Bool) → n ≤ 5 → Other (unless n b)
 unfolding unless
 other-unless n b h = other-cond b 0 n (λ e. omega arith) (λ e. omega arith)
 
-other-lowest : {A : Type 0} (number : A → ℕ) → ((x : A) → Other (number x)) → (xs : List A) → Other (lowestOf number xs)
+other-lowest
+    : {A : Type 0} (number : A → ℕ)
+    → ((x : A) → Other (number x)) → (xs : List A) → Other (lowestOf number xs)
 unfolding lowestOf
 other-lowest number p [] = λ e. omega arith
 other-lowest number p (x ∷ xs) = other-lower (number x) (lowestOf number xs) (p x) (other-lowest number p xs)
@@ -155,11 +157,6 @@ other-reply : (n : ℕ) (r : Reply) → Other n → r .number ≡ 0 → Other (r
 unfolding replyOf refusedReply
 other-reply n r p z = other-of (λ (x : Reply). x .number) (eqb n 0) r _ (λ e. omega arith) p
 
-traced-done : (t : Traced) → tracedReply t .number ≡ 0
-unfolding tracedReply doneReply
-traced-done (Met h n) = refl
-traced-done (Missed n) = refl
-
 module _ (before : ℕ) (w : List ℕ) (f : List Float) (b : Other before) (z : treeNumber 1 w f ≡ 0) where
   other-tree : (n : ℕ) → Other n → Other (lower n (treeNumber 1 w f))
   other-tree n p = other-lower n (treeNumber 1 w f) p (λ e. omega arith)
@@ -187,7 +184,7 @@ module _ (before : ℕ) (w : List ℕ) (f : List Float) (b : Other before) (z : 
 
   other-trace : Other (traceReply before 1 w f .number)
   unfolding traceReply
-  other-trace = other-reply _ _ (other-ask _) (traced-done _)
+  other-trace = other-reply _ _ (other-ask _) (traced-number _)
 
   other-shadow : Other (shadowReply before 1 w f .number)
   unfolding shadowReply doneReply
@@ -210,7 +207,7 @@ Others ask =
     → Other before → treeNumber 1 w f ≡ 0 → Other (ask before 1 w f .number)
 
 others : All Others treeCalls
-others = (other-query, (other-dist, (other-trace, (other-shadow, (other-direct, (other-diffuse, tt))))))
+others = other-query & other-dist & other-trace & other-shadow & other-direct & other-diffuse & tt
 
 -- ---- the tree's is 0 for the objects for which it meets the rules
 tree-zero

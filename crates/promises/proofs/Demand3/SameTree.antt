@@ -14,7 +14,7 @@ use Rattle.bvh_boxes.specs.Boxes.{inside, boxAt}
 use Rattle.bvh_rules.specs.Nodes.{nodeAt}
 use Rattle.bvh_rules.specs.Rules.{Tree, leaf, node, size, weight, Stands, Boxed, Once, Holds, Accepted}
 use Rattle.bvh_rules.proofs.Trees.{stands-fit}
-use Rattle.promises.proofs.Loaded.{float-word}
+use Rattle.promises.proofs.Tables.{float-word}
 
 -- ---- nodes
 node-same

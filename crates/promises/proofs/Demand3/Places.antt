@@ -81,7 +81,8 @@ onto (suc m) f h k l =
       ]
     ]
 
-pub order-onto : (o : List ℕ) (n : ℕ) → Once o n → (k : ℕ) → k < n → (i : ℕ) × ((i < n) × (wordOf o i ≡ k))
+pub order-onto
+    : (o : List ℕ) (n : ℕ) → Once o n → (k : ℕ) → k < n → (i : ℕ) × ((i < n) × (wordOf o i ≡ k))
 order-onto o n c = onto n (wordOf o) (record { below = c .below; apart = c .apart })
 
 -- ---- lists of places, none twice
@@ -135,7 +136,8 @@ abbrev Fresh : ℕ → ℕ → List ℕ → Type 0
 Fresh lo hi xs = (i : ℕ) → In i xs → lo ≤ i → i < hi → ⊥
 
 -- two parts of lo up to hi, one after the other
-module _ (lo hi a b c d : ℕ) (xs ys : List ℕ) (g : Sees a b xs ys) (p : (lo ≤ a) × (b ≤ hi)) (q : (lo ≤ c) × (d ≤ hi))
+module _ (lo hi a b c d : ℕ) (xs ys : List ℕ) (g : Sees a b xs ys)
+    (p : (lo ≤ a) × (b ≤ hi)) (q : (lo ≤ c) × (d ≤ hi))
   where
     fresh-after : Fresh lo hi xs → (b ≤ c) ⊎ (d ≤ a) → Fresh c d ys
     fresh-after new apart i at h k =
