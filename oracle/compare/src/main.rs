@@ -28,7 +28,7 @@ compare plan [PART]   calls on plans, at length
 compare tree [PART]   trees built, offered and searched, at length
 compare light [PART]  marches and light in furnished rooms, at length
 compare stack         bytes of stack that each call uses
-compare bench         times, ours beside the Rust's
+compare bench [TABLE] times, ours beside the Rust's
 compare store FILE    writes the answers that are replayed without Rust
 compare store light FILE  those of form factors and surfaces";
 
@@ -49,6 +49,7 @@ fn main() -> ExitCode {
             Ok(())
         }
         ["bench"] => bench::run(),
+        ["bench", table] => bench::run_one(table),
         ["store", file] => scalar::store::run(file),
         ["store", "light", file] => scalar::store::run_light(file),
         _ => Err(format!("usage:\n{USAGE}")),

@@ -68,7 +68,7 @@ pub fn through_short(run: &'static str, of: usize, things: &'static str) -> impl
 }
 
 /// 22288 as 22,288.
-fn grouped(n: usize) -> String {
+pub fn grouped(n: usize) -> String {
     match n {
         0..1_000 => n.to_string(),
         _ => format!("{},{:03}", grouped(n / 1_000), n % 1_000),

@@ -11,7 +11,7 @@ mod factors;
 pub mod formula;
 pub mod panels;
 mod places;
-mod room;
+pub mod room;
 mod rooms;
 mod surfaces;
 #[cfg(test)]

@@ -202,14 +202,16 @@ pub fn room(rng: &mut Rng) -> Plan {
     }
 }
 
+/// A panel that shines down.
+pub fn hanging(at: [f32; 3], [wide, deep]: [f32; 2]) -> Light {
+    light(rectangle(at, [wide, 0.0, 0.0], [0.0, 0.0, deep]), [12.0, 12.0, 11.0])
+}
+
 /// A classroom of 24 desks and 24 chairs, 240 pieces, beneath sixteen panels.
 pub fn classroom() -> Plan {
     let places = (0..24).map(|i| [(i % 6) as f32 * 1.8 - 4.5, (i / 6) as f32 * 2.0 - 3.0]);
     let objects: Vec<Piece> = places.flat_map(|[x, z]| [desk([x, z], 1), chair([x, z + 0.7], 2)].concat()).collect();
-    let panel = |i: usize| {
-        let at = [(i % 4) as f32 * 2.8 - 4.2, 2.95, (i / 4) as f32 * 2.4 - 3.6];
-        light(rectangle(at, [1.2, 0.0, 0.0], [0.0, 0.0, 0.6]), [12.0, 12.0, 11.0])
-    };
+    let panel = |i: usize| hanging([(i % 4) as f32 * 2.8 - 4.2, 2.95, (i / 4) as f32 * 2.4 - 3.6], [1.2, 0.6]);
     let size = Size { half: [6.0, 5.0], height: 3.0 };
     Plan {
         materials: vec![sound::material(); 3],
@@ -217,4 +219,12 @@ pub fn classroom() -> Plan {
         objects,
         lights: (0..LIGHTS.records).map(panel).collect(),
     }
+}
+
+/// The same with every second piece cut.
+pub fn cut_classroom() -> Plan {
+    let mut plan = classroom();
+    let mut rng = Rng::new(11);
+    plan.objects.iter_mut().step_by(2).for_each(|piece| cut(&mut rng, piece));
+    plan
 }

@@ -1,7 +1,7 @@
 //! Times of root, arc cosine and shapes.
 
 use super::{draw, judge, MOST_ARGS};
-use crate::bench::pair;
+use crate::bench::{pair, Race, Rows, INPUTS};
 use crate::call::{Call, OUT_BYTES};
 use crate::draw::within;
 use crate::judge::{DONE, KINDS, PLANE, RADIUS};
@@ -12,34 +12,37 @@ use glam::Vec3;
 use interflect::acos;
 use interflect::sdf::Prim;
 
-/// Inputs of a loop: few enough to stay in the cache.
-const INPUTS: usize = 1024;
+/// Floats of a loop: over fewer, a predictor learns the one branch of an arc cosine.
+const FLOATS: usize = 4 * INPUTS;
 
 const SHAPES: [&str; KINDS as usize] = ["sphere", "round box", "plane", "capsule", "torus", "cylinder", "cone"];
 
-pub fn run() {
+pub fn rows() -> Rows {
     let roots = floats(|rng| within(rng, RADIUS));
-    pair("root", &roots, |x| ours(Call::Root, &x.to_le_bytes()), |x| x.sqrt());
-
     let cosines = floats(|rng| rng.unit() * 2.0 - 1.0);
     let ours_acos = |x: &f32| ours(Call::Acos, &x.to_le_bytes());
-    pair("acos, libm", &cosines, ours_acos, |x| x.acos());
-    pair("acos, formula", &cosines, ours_acos, |x| acos::formula(*x));
-
-    let dist = |name: &str, inputs: &[Input]| {
-        pair(name, inputs, |i| ours(Call::PrimDist, &i.args), |i| i.prim.dist(i.point));
-    };
+    let mut rows = vec![
+        pair("root", roots, |x| ours(Call::Root, &x.to_le_bytes()), |x| x.sqrt()),
+        pair("acos, libm", cosines.clone(), ours_acos, |x| x.acos()),
+        pair("acos, formula", cosines, ours_acos, |x| acos::formula(*x)),
+    ];
     for (kind, shape) in SHAPES.iter().enumerate() {
-        dist(&format!("dist, {shape}"), &shapes(|k| k == kind as u32));
+        rows.push(dist(shape, |k| k == kind as u32));
     }
-    dist("dist, any", &shapes(|_| true));
+    rows.push(dist("any", |_| true));
     let inputs = shapes(|k| k != PLANE);
-    pair("bounds, any", &inputs, |i| ours(Call::PrimBounds, &i.args), |i| i.prim.bounds().unwrap());
+    rows.push(pair("bounds, any", inputs, |i| ours(Call::PrimBounds, &i.args), |i| i.prim.bounds().unwrap()));
+    rows
+}
+
+fn dist(name: &str, wanted: impl Fn(u32) -> bool) -> Box<dyn Race> {
+    let inputs = shapes(wanted);
+    pair(&format!("dist, {name}"), inputs, |i| ours(Call::PrimDist, &i.args), |i| i.prim.dist(i.point))
 }
 
 fn floats(draw: impl Fn(&mut Rng) -> f32) -> Vec<f32> {
     let mut rng = Rng::new(4);
-    (0..INPUTS).map(|_| draw(&mut rng)).collect()
+    (0..FLOATS).map(|_| draw(&mut rng)).collect()
 }
 
 /// A shape and a point in the form of each side, so that neither pays for a change of form.
