@@ -2,15 +2,15 @@
 -- gives the bits of the root. Assumes nothing.
 use mathlib.Core.Path.{_≡_, refl, sym, ap, _∙_, subst}
 use Prim.Native.Nat.{ℕ, zero, suc, _+_, _-_, _*_, _/_, _%_, _^_, _≤_, _<_}
-use native.Mathlib.Nat.{le-trans, le-refl, le-of-eq, lt-of-lt-of-le, lt-of-le-of-lt, lt-of-not-le, not-le-of-lt}
+use native.Mathlib.Nat.{le-trans, le-refl, le-of-eq, le-of-lt, lt-of-lt-of-le, lt-of-le-of-lt, not-le-of-lt}
 use native.Mathlib.Nat.{eq-or-lt-of-le, add-le-add, mul-le-mul, mul-le-mul-right, mul-lt-mul-of-pos-right, pow-succ'}
-use native.Mathlib.Nat.{mul-assoc, mul-mul-mul-comm, mul-one, zero-mul}
+use native.Mathlib.Nat.{mul-assoc, mul-mul-mul-comm, mul-one, zero-mul, mod-eq-of-lt}
 use native.Mathlib.Omega.{arith}
-use mathlib.Core.Logic.{_⊎_, inl, inr}
-use lib.Dec.{T, leb, lit≤, lit<, leb→le}
+use mathlib.Core.Logic.{inl, inr}
+use lib.Dec.{leb, lit≤, lit<, leb→le}
 use lib.Pow.{pow-pos, pow-add, pow-mono}
 use Rattle.root.specs.Root.{fields, val, mid, rootBits}
-use Rattle.root.specs.Inside.Steps.{expo, digs, Scaled}
+use Rattle.root.specs.Inside.Steps.{expo, digs, Scaled, Nearest}
 use Rattle.root.proofs.Patterns.{gap, val-suc, val-mono, val-lt, Found, bits-unique, val-small}
 
 -- ---- the bits j * 2 ^ 23 + a, for an a of 24 digits or 2 ^ 24, count a * 2 ^ j units
@@ -100,45 +100,53 @@ mid-below j s a e g h k = elim (eq-or-lt-of-le h) [ inl f ↦ first f | inr l �
         small s a e = omega arith
 
 -- ---- half the root of N, rounded
+pub at-most : (N a : ℕ) → Nearest N a → N < 1125899906842624 → a ≤ 16777216
+at-most N a h most =
+    le-of-not (λ (g : 33554432 ≤ a + a - 1). not-le-of-lt (lt-of-le-of-lt (mul-le-mul g g) (lt-of-lt-of-le (h .over)
+    (le-of-lt most))) (le-refl (33554432 * 33554432)))
+  where
+    le-of-not : ((33554432 ≤ a + a - 1) → ⊥) → a ≤ 16777216
+    le-of-not f = omega arith
+
 pub found
-    : (n N j s : ℕ) → n * 2 ^ 151 ≡ N * 2 ^ (j + j) → s * s ≤ N → N < (s + 1) * (s + 1)
-    → 281474976710656 ≤ N → N < 1125899906842624 → Found n (j * 8388608 + (s + 1) / 2)
-found n N j s e lo hi least most = (
-  le-trans (mul-le-mul below below) (le-trans (le-of-eq (square s j))
-      (le-trans (mul-le-mul-right (2 ^ (j + j)) lo) (le-of-eq (sym e)))),
+    : (n N j a : ℕ) → n * 2 ^ 151 ≡ N * 2 ^ (j + j) → Nearest N a → 281474976710656 ≤ N → N < 1125899906842624
+    → Found n (j * 8388608 + a)
+found n N j a e h least most = (
+  le-trans below (le-of-eq (sym e)),
   lt-of-le-of-lt (le-of-eq e)
-      (lt-of-lt-of-le (mul-lt-mul-of-pos-right (lt-of-lt-of-le hi (mul-le-mul up up)) (pow-pos (j + j)))
+      (lt-of-lt-of-le (mul-lt-mul-of-pos-right (lt-of-lt-of-le (h .under) (mul-le-mul up up)) (pow-pos (j + j)))
       (le-trans (le-of-eq (sym (square (suc (2 * a)) j))) (mul-le-mul above above))),
 )
   where
-    a : ℕ
-    a = (s + 1) / 2
-
-    s-low : 16777216 ≤ s
-    s-low = le-of-not (λ (g : s + 1 ≤ 16777216). not-le-of-lt (lt-of-lt-of-le hi (mul-le-mul g g)) least)
+    a-low : 8388608 ≤ a
+    a-low =
+        le-of-not (λ (g : a + a + 1 ≤ 16777216). not-le-of-lt (lt-of-lt-of-le (h .under) (mul-le-mul g g)) least)
       where
-        le-of-not : ((s + 1 ≤ 16777216) → ⊥) → 16777216 ≤ s
+        le-of-not : ((a + a + 1 ≤ 16777216) → ⊥) → 8388608 ≤ a
         le-of-not f = omega arith
 
-    s-high : s < 33554432
-    s-high =
-        lt-of-not-le (λ (g : 33554432 ≤ s). not-le-of-lt (lt-of-le-of-lt (mul-le-mul g g) (lt-of-le-of-lt lo most))
-        (le-refl (33554432 * 33554432)))
-
-    a-low : 8388608 ≤ a
-    a-low = let h = s-low in omega arith
-
     a-high : a ≤ 16777216
-    a-high = let h = s-high in omega arith
+    a-high = at-most N a h most
 
-    up : s + 1 ≤ suc (2 * a)
+    up : a + a + 1 ≤ suc (2 * a)
     up = omega arith
-
-    below : mid (j * 8388608 + a) ≤ s * 2 ^ j
-    below = mid-below j s a refl s-low a-low a-high
 
     above : suc (2 * a) * 2 ^ j ≤ mid (suc (j * 8388608 + a))
     above = mid-above j a a-low a-high
+
+    below-by
+        : (s : ℕ) → a ≡ (s + 1) / 2 → 16777216 ≤ s → s * s ≤ N
+        → mid (j * 8388608 + a) * mid (j * 8388608 + a) ≤ N * 2 ^ (j + j)
+    below-by s f g lo =
+        let m = mid-below j s a f g a-low a-high in
+        le-trans (mul-le-mul m m) (le-trans (le-of-eq (square s j)) (mul-le-mul-right (2 ^ (j + j)) lo))
+
+    below : mid (j * 8388608 + a) * mid (j * 8388608 + a) ≤ N * 2 ^ (j + j)
+    below =
+        elim (eq-or-lt-of-le a-low) [
+          | inl f ↦ below-by 16777216 (omega arith) (le-refl 16777216) least
+          | inr l ↦ below-by (a + a - 1) (omega arith) (omega arith) (le-of-lt (h .over))
+        ]
 
 -- ---- how N and j are come by
 pub expo-pos : (f : ℕ) → 0 < expo f
@@ -196,18 +204,35 @@ module _ (b m e : ℕ) (d : m ≡ digs (b / 8388608) (b % 8388608)) (x : e ≡ e
   at : (n : ℕ) → Scaled b n ((e + 1) / 2 + 62) → Scaled b n ((expo (b / 8388608) + 1) / 2 + 62)
   at n h = subst (λ (z : ℕ). Scaled b n ((z + 1) / 2 + 62)) x h
 
-  pub few : m < 16777216
+  few : m < 16777216
   few = subst (λ (z : ℕ). z < 16777216) (sym d) (digs-lt (b / 8388608) (b % 8388608) (omega arith))
 
-  pub start-even : e % 2 ≡ 0 → Scaled b (m * 67108864) ((expo (b / 8388608) + 1) / 2 + 62)
-  start-even o = let p = some in at (m * 67108864) record { same = scale (val b) m e 26 ((e + 1) / 2 + 62 + ((e + 1) / 2 + 62)) value (omega arith) }
+  pub start-even
+      : e % 2 ≡ 0
+      → (m * 2 % 4294967296 < 33554432)
+      × Scaled b (m * 2 % 4294967296 * 33554432) ((expo (b / 8388608) + 1) / 2 + 62)
+  start-even o =
+      let p = some in
+      let f = few in
+      let g : m * 67108864 ≡ m * 2 % 4294967296 * 33554432 = omega arith in (
+        omega arith,
+        subst (λ (z : ℕ). Scaled b z ((expo (b / 8388608) + 1) / 2 + 62)) g
+            (at (m * 67108864) record {
+              same = scale (val b) m e 26 ((e + 1) / 2 + 62 + ((e + 1) / 2 + 62)) value
+                  (omega arith);
+            }),
+      )
 
-  pub start-odd : (e % 2 ≡ 0 → ⊥) → Scaled b (m * 33554432) ((expo (b / 8388608) + 1) / 2 + 62)
+  pub start-odd
+      : (e % 2 ≡ 0 → ⊥) → (m < 33554432) × Scaled b (m * 33554432) ((expo (b / 8388608) + 1) / 2 + 62)
   start-odd o =
-      at (m * 33554432) record {
-        same = scale (val b) m e 25 ((e + 1) / 2 + 62 + ((e + 1) / 2 + 62)) value
-            (omega arith);
-      }
+      let f = few in (
+        omega arith,
+        at (m * 33554432) record {
+          same = scale (val b) m e 25 ((e + 1) / 2 + 62 + ((e + 1) / 2 + 62)) value
+              (omega arith);
+        },
+      )
 
 -- a turn of the loop: N times 4, j less 1
 no-zero : (v n : ℕ) → v * 2 ^ 151 ≡ n * 1 → 0 < n → n < 281474976710656 → ⊥
@@ -226,24 +251,38 @@ pub j-pos : (b n j : ℕ) → Scaled b n j → 0 < n → n < 281474976710656 →
 j-pos b n zero e h k = absurd (no-zero (val b) n (e .same) h k)
 j-pos b n (suc j) e h k = omega arith
 
-pub turn : (b n j : ℕ) → 0 < j → Scaled b n j → Scaled b (n * 4) (j - 1)
-turn b n j h e = record { same = e .same ∙ ap (λ (z : ℕ). n * 2 ^ z) (two j h) ∙ ap (λ (z : ℕ). n * z) (pow-add 2 2 (j - 1 + (j - 1))) ∙ sym (mul-assoc n 4 (2 ^ (j - 1 + (j - 1)))) }
+pub four-times : (m : ℕ) → m < 8388608 → m * 4 % 4294967296 ≡ m * 4
+four-times m k = mod-eq-of-lt (omega arith)
+
+pub turn
+    : (b m j : ℕ) → 0 < j → m < 8388608 → Scaled b (m * 33554432) j
+    → Scaled b (m * 4 % 4294967296 * 33554432) (j - 1)
+turn b m j h k e = record {
+  same = e .same ∙ ap (λ (z : ℕ). m * 33554432 * 2 ^ z) (two j h)
+      ∙ ap (λ (z : ℕ). m * 33554432 * z) (pow-add 2 2 (j - 1 + (j - 1)))
+      ∙ sym (mul-assoc (m * 33554432) 4 (2 ^ (j - 1 + (j - 1))))
+      ∙ ap (λ (z : ℕ). z * 2 ^ (j - 1 + (j - 1))) (four m k);
+}
   where
     two : (j : ℕ) → 0 < j → j + j ≡ 2 + (j - 1 + (j - 1))
     two j h = omega arith
 
-pub n-pos : (b n j : ℕ) → 0 < b → Scaled b n j → 0 < n
-n-pos b zero j h e =
+    four : (m : ℕ) → m < 8388608 → m * 33554432 * 4 ≡ m * 4 % 4294967296 * 33554432
+    four m k = let q = four-times m k in omega arith
+
+pub m-pos : (b m j : ℕ) → 0 < b → Scaled b (m * 33554432) j → 0 < m
+m-pos b zero j h e =
     absurd (not-le-of-lt (mul-lt-mul-of-pos-right (val-lt h) (pow-pos 151))
     (le-of-eq (e .same ∙ zero-mul (2 ^ (j + j)))))
-n-pos b (suc n) j h e = omega arith
+m-pos b (suc m) j h e = omega arith
 
 pub result
-    : (b n j s : ℕ) → b < 2139095040 → Scaled b n j → s * s ≤ n → n < (s + 1) * (s + 1)
-    → 281474976710656 ≤ n → n < 1125899906842624 → j * 8388608 + (s + 1) / 2 ≡ rootBits (val b)
-result b n j s h e lo hi least most =
-    let f = found (val b) n j s (e .same) lo hi least most in
-    bits-unique (val b) (j * 8388608 + (s + 1) / 2) (val-small b h) (f .0) (f .1)
+    : (b n j a : ℕ) → b < 2139095040 → j ≤ 190 → Scaled b n j → Nearest n a → 281474976710656 ≤ n
+    → n < 1125899906842624 → j * 8388608 % 4294967296 + a ≡ rootBits (val b)
+result b n j a h k e r least most =
+    let f = found (val b) n j a (e .same) r least most in
+    ap (λ (z : ℕ). z + a) (mod-eq-of-lt (omega arith))
+    ∙ bits-unique (val b) (j * 8388608 + a) (val-small b h) (f .0) (f .1)
 
 pub begin
     : (b n e : ℕ) → e ≡ expo (b / 8388608) → Scaled b n ((expo (b / 8388608) + 1) / 2 + 62)
@@ -256,8 +295,3 @@ e-small b e x h = le-trans (le-of-eq x) (expo-le (b / 8388608) 254 (omega arith)
 pub zero-is : (b : ℕ) → b ≡ 0 → 0 ≡ rootBits (val b)
 unfolding rootBits
 zero-is b h = subst (λ (z : ℕ). 0 ≡ rootBits (val z)) (sym h) refl
-
-pub s-small : (n s : ℕ) → s * s ≤ n → n < 1125899906842624 → s < 33554432
-s-small n s lo most =
-    lt-of-not-le (λ (g : 33554432 ≤ s). not-le-of-lt (lt-of-le-of-lt (mul-le-mul g g) (lt-of-le-of-lt lo most))
-    (le-refl (33554432 * 33554432)))

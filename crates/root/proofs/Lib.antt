@@ -4,4 +4,5 @@ pub mod Laws
 pub mod Order
 pub mod BarLaw
 pub mod Core
+pub mod Places
 pub mod Whole

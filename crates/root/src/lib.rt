@@ -3,84 +3,84 @@ ghost use mathlib.Core.Path.{_≡_};
 ghost use Rattle.root.specs.Root.{val, rootBits, rootOf};
 ghost use lib.Ieee.{le};
 ghost use Rattle.root.specs.Inside.Bar.{barOf};
-ghost use Rattle.root.specs.Inside.Steps.{expo, digs, Scaled};
-ghost use Prim.Native.Nat.{ℕ, _+_, _*_, _/_, _%_, _<_, _≤_};
+ghost use Rattle.root.specs.Inside.Steps.{expo, digs, Scaled, Remains, Nearest};
+ghost use Prim.Native.Nat.{ℕ, _+_, _*_, _/_, _%_, _<_};
 
-// A guess g at the root of n, mended by a step of Newton's method. Nothing rests on the guesses but time.
-fn mended(n: u64, g: u64) -> u64 {
-    if g < 0x1_0000 {
-        return g;
-    }
-    if g >= 0x1_0000_0000 {
-        return g;
-    }
-    (g + n / g) / 2
+// What the steps to a root hold: `twice`, double the digits found, and `left`, what their square leaves of the number,
+// counted in places of the next digit.
+struct Rest {
+    left: u32,
+    twice: u32,
 }
 
-// A first guess at the root of n, by a line: within one part in 100 of it for an n from 2 ^ 48 to 2 ^ 50.
-fn first(n: u64) -> u64 {
-    if n < 0x2_0000_0000_0000 {
-        9977746 + n / 40503782
-    } else {
-        14110664 + n / 57280998
-    }
-}
-
-// A guess at the root of n: within two of it for such an n.
-fn guess(n: u64) -> u64
-    ensures { λ r. ⌜ r < 4294967296 ⌝ }
+// One digit more, at `bit`. It makes the square grow by twice + bit, counted as `left` is; where that is more than is
+// left, the digit is 0. What remains is brought down a place.
+// Written as selects, with `left` doubled beside the test and not after it: each step waits for the one before.
+fn step(r: Rest, bit: u32) -> Rest
+    ensures { λ s. ⌜ ((n : ℕ) → Remains n (r .left) (r .twice) (bit + bit) → Remains n (s .left) (s .twice) bit) ⌝ }
 {
-    let g = mended(n, mended(n, first(n)));
-    if g < 0x1_0000_0000 { g } else { 0xffff_ffff }
+    let t = std::num::wrapping_add_u32(r.twice, bit);
+    let mut twice = std::num::wrapping_add_u32(t, bit);
+    let mut square = t << 1;
+    if r.left < t {
+        twice = r.twice;
+        square = 0;
+    }
+    Rest {
+        left: std::num::wrapping_sub_u32(r.left << 1, square),
+        twice: twice,
+    }
 }
 
-// The whole part of the root of n.
-fn isqrt(n: u64) -> u64
-    ensures { λ r. ⌜ (r * r ≤ n) × (n < (r + 1) * (r + 1)) ⌝ }
+// 24 digits, of half the root of m * 2 ^ 25, and what remains.
+fn steps(m: u32) -> Rest
+    ensures { λ r. ⌜ (m < 33554432 → Remains (m * 33554432) (r .left) (r .twice) 1) ⌝ }
 {
-    let mut s = guess(n);
-    while s * s > n {
-        s = s - 1;
+    let mut r = Rest { left: m, twice: 0 };
+    let mut k: u32 = 24;
+    while k > 0 {
+        k = k - 1;
+        r = step(r, 1 << k);
     }
-    while s < 0xffff_ffff {
-        if (s + 1) * (s + 1) > n {
-            return s;
-        }
-        s = s + 1;
-    }
-    s
+    r
+}
+
+// Half the root of m * 2 ^ 25, to the nearest by what remains. There is no tie: twice + 1 has an odd square, m * 2 ^ 25
+// is even.
+fn rounded(m: u32) -> u32
+    ensures { λ r. ⌜ (0 < m → m < 33554432 → Nearest (m * 33554432) r) ⌝ }
+{
+    let r = steps(m);
+    let q = r.twice >> 1;
+    if r.twice < r.left { q + 1 } else { q }
 }
 
 // The exponent's field of the bits b, and 1 where it is 0.
-fn exponent(b: u64) -> u64
+fn exponent(b: u32) -> u32
     ensures { λ r. ⌜ r ≡ expo (b / 8388608) ⌝ }
 {
-    let f = b / 0x80_0000;
+    let f = b >> 23;
     if f == 0 { 1 } else { f }
 }
 
 // The digits of the bits b, the leading one among them.
-fn digits(b: u64) -> u64
+fn digits(b: u32) -> u32
     ensures { λ r. ⌜ r ≡ digs (b / 8388608) (b % 8388608) ⌝ }
 {
-    let t = b % 0x80_0000;
-    if b / 0x80_0000 == 0 { t } else { t + 0x80_0000 }
+    let t = b & 0x7f_ffff;
+    if b >> 23 == 0 { t } else { t + 0x80_0000 }
 }
 
-// The digits, moved up by 25 or 26 places so that what is left of the exponent is even.
-fn scaled(b: u64) -> u64
-    ensures { λ r. ⌜ (r < 1125899906842624) × Scaled b r ((expo (b / 8388608) + 1) / 2 + 62) ⌝ }
+// The digits, doubled where that makes what is left of the exponent even.
+fn scaled(b: u32) -> u32
+    ensures { λ r. ⌜ (r < 33554432) × Scaled b (r * 33554432) ((expo (b / 8388608) + 1) / 2 + 62) ⌝ }
 {
     let m = digits(b);
-    if exponent(b) % 2 == 0 {
-        m * 0x400_0000
-    } else {
-        m * 0x200_0000
-    }
+    if exponent(b) & 1 == 0 { m << 1 } else { m }
 }
 
 // The bits of the root of the f32 with the bits b, for one that is finite and not negative.
-fn root_bits(b: u64) -> u64
+fn root_bits(b: u32) -> u32
     ensures { λ r. ⌜ (r < 2139095040) × (b < 2139095040 → r ≡ rootBits (val b)) ⌝ }
 {
     if b == 0 {
@@ -89,14 +89,13 @@ fn root_bits(b: u64) -> u64
     if b >= 0x7f80_0000 {
         return 0;
     }
-    let mut n = scaled(b);
-    let mut j = (exponent(b) + 1) / 2 + 62;
-    while n < 0x1_0000_0000_0000 {
-        n = n * 4;
+    let mut m = scaled(b);
+    let mut j = ((exponent(b) + 1) >> 1) + 62;
+    while m < 0x80_0000 {
+        m = m << 2;
         j = j - 1;
     }
-    let s = isqrt(n);
-    j * 0x80_0000 + (s + 1) / 2
+    (j << 23) + rounded(m)
 }
 
 // The f32 nearest to the root of x. A zero and the infinity are their own; what is below zero has none.
@@ -106,7 +105,7 @@ pub fn root(x: f32) -> f32
     if x > 0.0 {
         let b = f32::to_bits(x);
         if b < 0x7f80_0000 {
-            return f32::from_bits(root_bits(b as u64) as u32);
+            return f32::from_bits(root_bits(b));
         }
         return x;
     }

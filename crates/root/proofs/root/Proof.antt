@@ -37,5 +37,4 @@ pub root-spec : {M : Type 1} → statement M
 root-spec =
     tie.close
     (tie.spec
-    float-to-bits-b (λ c. search needs) (λ c κs. search needs) (λ c. search needs) float-from-bits-result
-    returns returns-2 returns-3 returns-4)
+    float-to-bits-b (λ c κs. search needs) float-from-bits-result returns returns-2 returns-3 returns-4)

@@ -1,50 +1,27 @@
 -- `root::scaled` meets its contract. Assumes nothing.
-use native.Mathlib.Omega.{arith}
-use Rattle.root.proofs.Core.{few, start-even, start-odd}
+use lib.Bits.{and-mask}
+use mathlib.Core.Path.{sym, _∙_}
+use Rattle.root.proofs.Core.{start-even, start-odd}
 use borrow.Author.Needs.{needs}
 use Rattle.root.proofs.scaled.Statement.{statement}
 use Rattle.root.proofs.scaled.Tie as tie
 
-mul-result : tie.Need-mul-result
-mul-result c =
-    omega (
-      arith,
-      few (c .before .before .before .args .b) (c .before .before .digits .result)
-          (c .before .exponent .result) (c .before .before .digits .ensures) (c .before .exponent .ensures),
-    )
-
-mul-result-2 : tie.Need-mul-result-2
-mul-result-2 c =
-    omega (
-      arith,
-      few (c .before .before .before .args .b) (c .before .before .digits .result)
-          (c .before .exponent .result) (c .before .before .digits .ensures) (c .before .exponent .ensures),
-    )
-
 returns : tie.Need-returns
-returns c = (
-  omega (
-    arith,
-    few (c .before .before .before .args .b) (c .before .before .digits .result)
-        (c .before .exponent .result) (c .before .before .digits .ensures) (c .before .exponent .ensures),
-  ),
-  start-even (c .before .before .before .args .b) (c .before .before .digits .result) (c .before .exponent .result)
-      (c .before .before .digits .ensures) (c .before .exponent .ensures) (c .if1 .taken),
-)
+returns c =
+    let e = c .before .exponent in
+    let m = c .before .before .digits in
+    start-even (c .before .before .before .args .b) (m .result) (e .result) (m .ensures) (e .ensures)
+    (sym (and-mask (e .result) 1) ∙ c .if1 .taken)
 
 returns-2 : tie.Need-returns-2
-returns-2 c = (
-  omega (
-    arith,
-    few (c .before .before .before .args .b) (c .before .before .digits .result)
-        (c .before .exponent .result) (c .before .before .digits .ensures) (c .before .exponent .ensures),
-  ),
-  start-odd (c .before .before .before .args .b) (c .before .before .digits .result) (c .before .exponent .result)
-      (c .before .before .digits .ensures) (c .before .exponent .ensures) (c .if1 .left),
-)
+returns-2 c =
+    let e = c .before .exponent in
+    let m = c .before .before .digits in
+    start-odd (c .before .before .before .args .b) (m .result) (e .result) (m .ensures) (e .ensures)
+    (λ h. c .if1 .left (and-mask (e .result) 1 ∙ h))
 
 pub scaled-spec : {M : Type 1} → statement M
 scaled-spec =
     tie.close
     (tie.spec
-    (λ c κs. search needs) (λ c κs. search needs) mul-result mul-result-2 returns returns-2)
+    (λ c κs. search needs) (λ c κs. search needs) returns returns-2)
