@@ -110,7 +110,7 @@ next n l s x w k p h f r =
         ap (λ (z : ℕ). 2 ^ z) q ∙ pow-succ' 2 (k - 1) ∙ two-mul (2 ^ (k - 1))
 
 -- ---- what remains after the last step
--- no tie: n is the square of s and something even more, that of s + 1 something odd
+-- no tie: past the square of s, n lies an even number on, and the square of s + 1 an odd one
 pub no-tie : (n l s : ℕ) → Remains n l s 1 → n ≡ (s + 1) * (s + 1) → ⊥
 no-tie n l s h e = odd n l s (h .same) e
   where
