@@ -1,5 +1,5 @@
--- The arithmetic of `root_bits`: n units are N * 2 ^ (j + j) quarters of 2 ^ -149 .. , and half the root of N, rounded,
--- gives the bits of the root. Assumes nothing.
+-- The arithmetic of `root_bits`: where n * 2 ^ 151 is N * 4 ^ j the root of n units is half the root of N, times 2 ^ j
+-- units, so that half the root of N, rounded, gives its bits. Assumes nothing.
 use mathlib.Core.Path.{_≡_, refl, sym, ap, _∙_, subst}
 use Prim.Native.Nat.{ℕ, zero, suc, _+_, _-_, _*_, _/_, _%_, _^_, _≤_, _<_}
 use native.Mathlib.Nat.{le-trans, le-refl, le-of-eq, le-of-lt, lt-of-lt-of-le, lt-of-le-of-lt, not-le-of-lt}
