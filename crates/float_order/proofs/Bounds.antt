@@ -78,7 +78,7 @@ within-of-plus b x y v h k =
     short c d e c' d' e' D C' D' h =
         rw (mul-right-comm b e e', ← C', D) (omega (arith, rw (D, D') at h, add-mul c 0 e'))
 
-neg-neg : (x : Float) → neg (neg x) ≡ x
+pub neg-neg : (x : Float) → neg (neg x) ≡ x
 unfolding neg
 neg-neg nan = refl
 neg-neg (inf true) = refl

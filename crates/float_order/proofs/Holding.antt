@@ -3,7 +3,7 @@
 use mathlib.Core.Path.{_≡_, refl, sym, ap, subst, _∙_}
 use mathlib.Core.Bool.{Bool, true, false, cond, not, _&&_, true≢false}
 use Prim.Native.Nat.{ℕ, zero, suc, _+_, _-_, _*_, _/_, _%_, _^_, _≤_, _<_}
-use native.Mathlib.Nat.{add-mul, mul-assoc, mul-comm, mul-right-comm, mul-pos, zero-lt-suc, mul-one, zero-mul}
+use native.Mathlib.Nat.{add-mul, mul-assoc, mul-comm, mul-right-comm, mul-le-mul-right, mul-pos, mul-one, zero-mul}
 use native.Mathlib.Nat.{mul-lt-mul-of-pos-right, lt-of-lt-of-le, lt-of-not-le, not-le-of-lt, le-of-eq, le-of-suc-le-suc}
 use native.Mathlib.Omega.{arith}
 use lib.Dec.{T, leb, ltb, eqb, ltb→lt, leb→le, eqb→eq}
@@ -13,7 +13,7 @@ use lib.Ieee.{Float, nan, inf, fin, Format, prec, emax, low, up, down, size, hid
 use lib.Ieee.{fits, toBits, ofBits}
 use lib.Ieee.Bits.{ofBits-toBits}
 use lib.Ieee.Nearest.{div-same}
-use lib.Ieee.Fits.{and-l, and-r, up-pos, down-pos}
+use lib.Ieee.Fits.{and-l, and-r, down-pos, round-fits}
 use lib.Ieee.Exact.{HasValue, round-exact}
 use lib.Ieee.Digits.{back}
 use lib.Ieee.Positive.{den, den-pos}
@@ -117,6 +117,25 @@ module _ (f : Format) (x : Float) (held : T (fits f x)) (small : T (finite x)) (
           (down-pos e) is (own f s m e) h) (held-ge s m e (round f s (m * up e) (down e)) (fits-held f s s m e k))
 
 -- ---- a sum with what is not negative is no less, and with what is not positive no more
+pub add-down
+    : (f : Format) (x m : Float) → T (fits f x) → T (finite x) → T (le m zeroF) → T (le (add f x m) x)
+add-down f x nan held small h = absurd (le-left nan zeroF h)
+add-down f x (inf true) held small h =
+    rw (add-inf-right f true x (add-number' f x (inf true) small tt)) (bottom-le x (finite-number x small))
+add-down f x (inf false) held small h = absurd (unfold le in h)
+add-down f x (fin s n e) held small h =
+    let m = fin s n e in
+    rounded-le f x held small (add f x m) _ _ (den x * den m) (mul-pos (den-pos x) (den-pos m))
+    (add-rounded f x m small tt)
+    (short (credit x) (debit x) (den x) (credit m) (debit m) (den m) (le→at-most m zeroF tt tt h))
+  where
+    short
+        : (c d e c' d' e' : ℕ) → c' * 1 + 0 * e' ≤ 0 * e' + d' * 1
+        → (c * e' + c' * e) * e + d * (e * e') ≤ c * (e * e') + (d * e' + d' * e) * e
+    short c d e c' d' e' h =
+        let k : c' ≤ d' = omega arith in
+        let g = mul-le-mul-right e (mul-le-mul-right e k) in
+        simp (add-mul, mul-assoc, mul-comm) (omega (arith, simp (mul-assoc, mul-comm) at g))
 
 pub neg-plus : (w : Float) → T (le zeroF w) → T (le (neg w) zeroF)
 neg-plus w h = le-trans (neg w) (neg zeroF) zeroF (neg-le zeroF w h) (unfold neg in (unfold le in tt))
@@ -128,4 +147,39 @@ sides f c r l h =
     add-mono f c c (neg r) r (le-refl c (finite-number c l)) (le-trans (neg r) zeroF r (neg-plus r h) h)
     (add-number' f c (neg r) l (neg-number r (le-right zeroF r h))) (add-number' f c r l (le-right zeroF r h))
 
--- ---- of two values that a format holds, and that are equal: they are one, unless one of them is -0
+-- ---- two values of one sign that a format holds, and that are equal, are one: so what it holds rounds to itself
+abbrev bitsFrom : Format → Bool → ℕ → ℕ
+bitsFrom f s n = cond s (top f) 0 + (size n - prec f) * hid f + n / 2 ^ (size n - prec f)
+
+bits-are
+    : (f : Format) (s : Bool) (m : ℕ) (e : ℤ) → toBits f (fin s m e) ≡ bitsFrom f s (m * up e * 2 ^ low f / down e)
+unfolding toBits
+bits-are f s m e = refl
+
+same-sign
+    : (f : Format) (s : Bool) (m : ℕ) (e : ℤ) (n : ℕ) (d : ℤ) → T (fits f (fin s m e)) → T (fits f (fin s n d))
+    → m * up e * down d ≡ n * up d * down e → fin s m e ≡ fin s n d
+same-sign f s m e n d h k q =
+    let l = 2 ^ low f in
+    sym (ofBits-toBits f (fin s m e) h)
+    ∙ ap (ofBits f) (bits-are f s m e ∙ ap (bitsFrom f s)
+    (div-same (m * up e * l) (down e) (n * up d * l) (down d) (down-pos e) (down-pos d)
+    (mul-right-comm (m * up e) l (down d) ∙ ap (λ (z : ℕ). z * l) q ∙ mul-right-comm (n * up d) (down e) l))
+    ∙ sym (bits-are f s n d)) ∙ ofBits-toBits f (fin s n d) k
+
+pub round-own
+    : (f : Format) (s : Bool) (m : ℕ) (e : ℤ) → T (fits f (fin s m e)) → round f s (m * up e) (down e) ≡ fin s m e
+round-own f s m e h =
+    go (round f s (m * up e) (down e)) (round-fits f s (m * up e) (down e)) (fits-held f s s m e h)
+  where
+    go : (y : Float) → T (fits f y) → HasValue y s (m * up e) (down e) → y ≡ fin s m e
+    go nan k v = absurd v
+    go (inf t) k v = absurd v
+    go (fin t n d) k v = sign t (v .0) k (v .1)
+      where
+        sign
+            : (t : Bool) → t ≡ s → T (fits f (fin t n d)) → n * up d * down e ≡ m * up e * down d
+            → fin t n d ≡ fin s m e
+        sign t p k q =
+            ap (λ (u : Bool). fin u n d) p
+            ∙ same-sign f s n d m e (subst (λ (u : Bool). T (fits f (fin u n d))) p k) h q

@@ -3,7 +3,10 @@
 use mathlib.Core.Path.{_≡_, refl}
 use mathlib.Core.Bool.{true, false}
 use lib.Dec.{T}
+use Prim.Native.Nat.{zero, suc}
 use lib.Ieee.{Float, nan, inf, fin, binary32, le, fits}
+use lib.Ieee.Fits.{nan-fits}
+use lib.Ieee.Bits.{ofBits-fits}
 use lib.Ieee.Scale.{finite}
 use Rattle.root.specs.Root.{plain, rootOf}
 use Rattle.root.proofs.Laws.{root-plain}
@@ -18,14 +21,30 @@ plain-of (inf s) f l c = absurd l
 plain-of (fin true m e) f l c = absurd c
 plain-of (fin false m e) f l c = f
 
-plain-number : (x : Float) → T (plain x) → T (number x)
+pub plain-number : (x : Float) → T (plain x) → T (number x)
 plain-number nan h = absurd h
 plain-number (inf s) h = absurd h
 plain-number (fin s m e) h = tt
 
-root-top : rootOf (inf false) ≡ inf false
+pub root-top : rootOf (inf false) ≡ inf false
 unfolding rootOf
 root-top = refl
+
+-- what has a finite root is a number
+pub rooted-number : (x : Float) → T (finite (rootOf x)) → T (number x)
+unfolding rootOf
+rooted-number nan h = absurd h
+rooted-number (inf s) h = tt
+rooted-number (fin s m e) h = tt
+
+pub root-fits : (x : Float) → T (fits binary32 x) → T (fits binary32 (rootOf x))
+unfolding rootOf
+root-fits nan h = h
+root-fits (inf true) h = nan-fits binary32
+root-fits (inf false) h = h
+root-fits (fin s zero e) h = h
+root-fits (fin true (suc m) e) h = nan-fits binary32
+root-fits (fin false (suc m) e) h = ofBits-fits binary32 _
 
 pub root-mono
     : (x y : Float) → T (fits binary32 x) → T (fits binary32 y) → T (clear x) → T (clear y) → T (le x y)

@@ -47,7 +47,7 @@ add-value f (fin false m e) (fin false n d) a b c C p q =
         add-mul (x * d) (y * e) c ∙ ap (λ (z : ℕ). z + y * e * c) u ∙ ap (λ (z : ℕ). a * (e * d) + z) v
         ∙ sym (add-mul a b (e * d))
 
-mul-value
+pub mul-value
     : (f : Format) (x y : Float) (a b c d : ℕ) → 0 < c → 0 < d → HasValue x false a c → HasValue y false b d
     → mul f x y ≡ round f false (a * b) (c * d)
 unfolding mul
@@ -64,7 +64,7 @@ mul-value f (fin false m e) (fin false n k) a b c d C D p q =
     (λ (z : ℕ). a * down e * z) (q .1) ∙ mul-mul-mul-comm a (down e) b (down k))
 
 -- ---- what f64 holds
-exact
+pub exact
     : (n o k i : ℕ) → n ≡ o * 2 ^ k → o < 2 ^ 53 → k ≤ 508 → i ≤ 300
     → HasValue (round binary64 false n (2 ^ i)) false n (2 ^ i)
 exact n o k i e h l g =

@@ -3,6 +3,8 @@ pub mod Patterns
 pub mod Laws
 pub mod Order
 pub mod BarLaw
+pub mod Apart
+pub mod Reach
 pub mod Core
 pub mod Places
 pub mod Whole

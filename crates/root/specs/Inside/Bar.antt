@@ -20,3 +20,8 @@ bar b = mul binary64 (middle b) (middle b)
 -- for every b: 0 where b is not above zero
 unfoldable pub barOf : Float → Float
 barOf b = cond (lt (fin false 0 (pos 0)) b) (bar b) (fin false 0 (pos 0))
+
+-- 1 and 2 ^ -20: two roots differ where the greater square is at least the lesser one times this (`apart-law` of
+-- proofs/Apart.antt)
+abbrev pub apartBy : Float
+apartBy = ofBits binary64 0x3ff0_0001_0000_0000
