@@ -1,7 +1,7 @@
+pub mod Gaps
 pub mod Leaves
 pub mod Stack
 pub mod Machine
-pub mod Squares
 pub mod Steps
 pub mod Visit
 pub mod Covers

@@ -25,8 +25,6 @@ use Rattle.bvh_search.specs.Inside.Machine.{
   Tables,
   tables,
   boxSquare,
-  farOff,
-  leftFirst,
   ended,
   popping,
   scanned,
@@ -38,6 +36,7 @@ use Rattle.bvh_search.specs.Inside.Machine.{
   openedOf,
   steppedOf,
 }
+use Rattle.root_tests.specs.Inside.Tests.{farOff, leftFirst, limitOf}
 use Rattle.bvh_search.proofs.Leaves.{places-few}
 use Rattle.bvh_search.proofs.Stack.{waiting, length-waiting, waiting-pop, waiting-push}
 
@@ -82,6 +81,7 @@ module _ (nw : List ℕ) (nf : List Float) (o : List ℕ) (w : List ℕ) (f : Li
       pub room : s .sp ≤ 63
       pub small : s .evaluated ≤ 256 * s .popped
       pub going : s .done ≡ 0
+      pub limit : s .lim ≡ limitOf (s .hit .d)
       pub held : (k : ℕ) → k < s .sp → getD keys k nan ≡ squareAt nw nf p (getD stack k 0)
 
     pub record Idle (stack : List ℕ) (keys : List Float) (s : State) : Type 0 where
@@ -128,6 +128,7 @@ module _ (nw : List ℕ) (nf : List Float) (o : List ℕ) (w : List ℕ) (f : Li
               room = omega (arith, W .room);
               small = W .small;
               going = W .going;
+              limit = W .limit;
               held = λ k l. W .held k (omega arith);
             };
             key = W .held (s .sp - 1) (omega arith);
@@ -174,7 +175,7 @@ module _ (nw : List ℕ) (nf : List Float) (o : List ℕ) (w : List ℕ) (f : Li
 
       -- a state x after the pop, with c objects more evaluated
       module _ (x : State) (c : ℕ) (ec : c ≤ 256) (es : x .sp ≡ s .sp) (ek : x .popped ≡ s .popped + 1)
-          (ee : x .evaluated ≡ s .evaluated + c) (ed : x .done ≡ s .done) where
+          (ee : x .evaluated ≡ s .evaluated + c) (ed : x .done ≡ s .done) (el : x .lim ≡ limitOf (x .hit .d)) where
         waited : Waits stack keys x
         waited =
             let W = i .waits in
@@ -184,6 +185,7 @@ module _ (nw : List ℕ) (nf : List Float) (o : List ℕ) (w : List ℕ) (f : Li
               room = omega (arith, W .room);
               small = omega (arith, W .small);
               going = ed ∙ W .going;
+              limit = el;
               held = λ k l. W .held k (omega arith);
             }
 
@@ -206,14 +208,16 @@ module _ (nw : List ℕ) (nf : List Float) (o : List ℕ) (w : List ℕ) (f : Li
       unfolding turnOf
       skipped e =
           nexted (popping s) pops
-          (idle (popping s) 0 (omega arith) refl pops (sym (add-zero (s .evaluated))) refl (rw (near true e)))
+          (idle (popping s) 0 (omega arith) refl pops (sym (add-zero (s .evaluated))) refl (i .waits .limit)
+          (rw (near true e)))
 
       module _ (e : farOff (s .key) (s .hit .d) ≡ false) where
         past : ltb (s .at) 511 ≡ false → Popped (tables stack keys (nextOf stack keys (popping s)))
         unfolding turnOf
         past g =
             nexted (popping s) pops
-            (idle (popping s) 0 (omega arith) refl pops (sym (add-zero (s .evaluated))) refl (rw (near false e, g)))
+            (idle (popping s) 0 (omega arith) refl pops (sym (add-zero (s .evaluated))) refl (i .waits .limit)
+            (rw (near false e, g)))
 
         module _ (g : ltb (s .at) 511 ≡ true) where
           leafed : eqb (v .count) 0 ≡ false → Popped (tables stack keys (scannedOf o w f p stack keys (popping s) v))
@@ -221,7 +225,8 @@ module _ (nw : List ℕ) (nf : List Float) (o : List ℕ) (w : List ℕ) (f : Li
           leafed z =
               let x : State = scanned (popping s) (leafScan w f o p (v .start) (placesOf v) (s .hit)) in
               nexted x pops
-              (idle x (placesOf v) (places-few v) refl pops (evals (placesOf v) (places-few v)) refl (rw (near false e, g, z)))
+              (idle x (placesOf v) (places-few v) refl pops (evals (placesOf v) (places-few v)) refl refl
+              (rw (near false e, g, z)))
 
           module _ (z : eqb (v .count) 0 ≡ true) where
             abbrev l : ℕ
@@ -272,6 +277,7 @@ module _ (nw : List ℕ) (nf : List Float) (o : List ℕ) (w : List ℕ) (f : Li
                       room = omega arith;
                       small = rw pops (omega (arith, W .small));
                       going = W .going;
+                      limit = W .limit;
                       held = kept a;
                     };
                     key = refl;

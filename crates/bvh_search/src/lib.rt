@@ -5,12 +5,15 @@ ghost use mathlib.Core.List.{[], _∷_};
 ghost use Prim.Native.Nat.{_+_, _-_};
 ghost use lib.ListN.{length, getD, set};
 ghost use lib.Ieee.{nan};
-ghost use Rattle.plan.specs.Nearest.{hitOf};
+ghost use Rattle.scalar.specs.F32.{f0};
+ghost use Rattle.scalar.specs.Extremes.{fmax};
+ghost use Rattle.root_tests.specs.Inside.Tests.{limitOf};
+ghost use Rattle.plan.specs.Nearest.{hitOf, closer};
 ghost use Rattle.bvh_rules.specs.Nodes.{nodesMost, nodesOf, orderOf};
 ghost use Rattle.bvh_search.specs.Search.{pieceIn, leafScan, placesOf, runOf, searchOf};
 ghost use Rattle.bvh_search.specs.Field.{hitBy, fieldBy};
-ghost use Rattle.bvh_search.specs.Inside.Machine.{boxSquare, usual, farOff, partsRoots, leftFirst, holding};
-ghost use Rattle.bvh_search.specs.Inside.Machine.{ended, popping, nextOf, scannedOf, tables, squareAt};
+ghost use Rattle.bvh_search.specs.Inside.Machine.{boxSquare, holding, ended, popping, nextOf, scannedOf};
+ghost use Rattle.bvh_search.specs.Inside.Machine.{tables, squareAt};
 ghost use Rattle.bvh_search.specs.Inside.Machine.{childrenOf, openedOf, steppedOf};
 use bvh_rules::Node;
 use plan::DistHit;
@@ -50,15 +53,25 @@ pub struct Scan {
     pub evaluated: u32,
 }
 
-// The node in hand with its key, how many wait, and how the search stands.
+// The node in hand with its key, how many wait, the best hit with the limit of its distance, and how the search stands.
 pub struct State {
     pub at: usize,
     pub key: f32,
     pub sp: usize,
     pub hit: DistHit,
+    pub lim: f64,
     pub popped: u32,
     pub evaluated: u32,
     pub done: u32,
+}
+
+// The greatest of a, b and 0: three selects, of which two with 0 are one instruction each.
+fn gap(a: f32, b: f32) -> f32
+    ensures { λ r. ⌜ r ≡ fmax (fmax a b) f0 ⌝ }
+{
+    let u = scalar::max(a, 0.0);
+    let v = scalar::max(b, 0.0);
+    if u > v { u } else { v }
 }
 
 // The square of the distance from p to a box.
@@ -66,71 +79,13 @@ fn box_square(p: Vec3, b: Aabb) -> f32
     ensures { λ r. ⌜ r ≡ boxSquare p b ⌝ }
 {
     let lo = b.lo;
-    let d = lo.sub(p).max(p.sub(b.hi)).max(Vec3::splat(0.0));
+    let hi = b.hi;
+    let d = Vec3 {
+        x: gap(lo.x - p.x, p.x - hi.x),
+        y: gap(lo.y - p.y, p.y - hi.y),
+        z: gap(lo.z - p.z, p.z - hi.z),
+    };
     d.dot(d)
-}
-
-// Whether x is above zero and finite.
-fn usual(x: f32) -> bool
-    ensures { λ r. ⌜ r ≡ usual x ⌝ }
-{
-    if x > 0.0 {
-        return x <= refusals::GREATEST;
-    }
-    false
-}
-
-// Whether the root of a square is at least d: for what is above zero and finite the square is held against d's bar, and
-// no root taken.
-fn far_off(s: f32, d: f32) -> bool
-    ensures { λ r. ⌜ r ≡ farOff s d ⌝ }
-{
-    if usual(s) {
-        if usual(d) {
-            return root::at_least(s, root::bar(d));
-        }
-        if d <= 0.0 {
-            return true;
-        }
-    }
-    root::root(s) >= d
-}
-
-// A guess at a number between the roots of l and r: the root of their mean, by its bits and a step of Newton's method.
-// Nothing rests on it but time.
-fn halfway(l: f32, r: f32) -> f32 {
-    let m = l * 0.5 + r * 0.5;
-    let g = scalar::float(scalar::bits(m) / 2 + 0x1fbd_1df5);
-    (g + m / g) * 0.5
-}
-
-// Whether b lies above the root of l, and not above that of r.
-fn parts(l: f32, r: f32, b: f32) -> bool
-    ensures { λ x. ⌜ x ≡ partsRoots l r b ⌝ }
-{
-    if far_off(r, b) {
-        return !far_off(l, b);
-    }
-    false
-}
-
-// Whether the root of l is less than that of r: no root is taken where r is at most l, and none where the guess lies
-// between the two.
-fn left_first(l: f32, r: f32) -> bool
-    ensures { λ x. ⌜ x ≡ leftFirst l r ⌝ }
-{
-    if l >= 0.0 {
-        if r >= 0.0 {
-            if r <= l {
-                return false;
-            }
-            if parts(l, r, halfway(l, r)) {
-                return true;
-            }
-            return !far_off(l, root::root(r));
-        }
-    }
-    root::root(l) < root::root(r)
 }
 
 fn square_at(ws: &Words, fs: &Floats, p: Vec3, at: usize) -> f32
@@ -153,12 +108,13 @@ fn places(v: Node) -> u32
     0
 }
 
-// The hit of the object at place i of the order.
-fn hit_in(ws: &Words, fs: &Floats, p: Vec3, i: usize) -> DistHit
-    ensures { λ r. ⌜ r ≡ hitOf (pieceIn (now (ws .entry)) (now (fs .entry)) (orderOf (now (ws .entry))) i) p ⌝ }
+// The nearer of the best hit and the object at place i of the order.
+fn nearer_in(ws: &Words, fs: &Floats, p: Vec3, i: usize, best: DistHit) -> DistHit
+    ensures { λ r. ⌜ r
+        ≡ closer best (hitOf (pieceIn (now (ws .entry)) (now (fs .entry)) (orderOf (now (ws .entry))) i) p) ⌝ }
 {
     let o = bvh_rules::order_at(ws, i);
-    plan::hit_of(ws, fs, plan::OBJECT_ROW as usize + o as usize, p)
+    plan_near::nearer(ws, fs, plan::OBJECT_ROW as usize + o as usize, p, best)
 }
 
 // The best of a hit and c objects from place s of the order on.
@@ -168,7 +124,7 @@ fn leaf_hit(ws: &Words, fs: &Floats, p: Vec3, s: u32, c: u32, best: DistHit) -> 
     let mut hit = best;
     let mut j: u32 = 0;
     while j < c {
-        hit = plan::closer(hit, hit_in(ws, fs, p, s as usize + j as usize));
+        hit = nearer_in(ws, fs, p, s as usize + j as usize, hit);
         j += 1;
     }
     Scan { hit, evaluated: c }
@@ -204,6 +160,7 @@ fn holding(s: State, at: usize, key: f32, sp: usize) -> State
         key,
         sp,
         hit,
+        lim: s.lim,
         popped: s.popped,
         evaluated: s.evaluated,
         done: s.done,
@@ -219,6 +176,7 @@ fn ended(s: State, done: u32) -> State
         key: s.key,
         sp: s.sp,
         hit,
+        lim: s.lim,
         popped: s.popped,
         evaluated: s.evaluated,
         done,
@@ -234,6 +192,7 @@ fn popping(s: State) -> State
         key: s.key,
         sp: s.sp,
         hit,
+        lim: s.lim,
         popped: std::num::wrapping_add_u32(s.popped, 1),
         evaluated: s.evaluated,
         done: s.done,
@@ -271,6 +230,7 @@ fn scanned(
         key: s.key,
         sp: s.sp,
         hit,
+        lim: root_tests::limit(hit.d),
         popped: s.popped,
         evaluated: std::num::wrapping_add_u32(s.evaluated, seen.evaluated),
         done: s.done,
@@ -312,7 +272,7 @@ fn children(
     }
     let kl = square_at(ws, fs, p, l);
     let kr = square_at(ws, fs, p, r);
-    if left_first(kl, kr) {
+    if root_tests::left_first(kl, kr) {
         wait(stack, keys, s.sp, r, kr);
         return holding(s, l, kl, s.sp + 1);
     }
@@ -352,12 +312,12 @@ fn step(
     keys: &mut [f32; 64],
     s: State,
 ) -> State
-    ensures { λ x. ⌜ tables (now (stack .exit)) (now (keys .exit)) x
+    ensures { λ x. ⌜ (s .lim ≡ limitOf (s .hit .d) → tables (now (stack .exit)) (now (keys .exit)) x
         ≡ steppedOf (nodesOf (now (ws .entry))) (nodesOf (now (fs .entry))) (orderOf (now (ws .entry)))
-        (now (ws .entry)) (now (fs .entry)) p (now (stack .entry)) (now (keys .entry)) s ⌝ }
+        (now (ws .entry)) (now (fs .entry)) p (now (stack .entry)) (now (keys .entry)) s) ⌝ }
 {
     let hit = s.hit;
-    if far_off(s.key, hit.d) {
+    if root_tests::far_off(s.key, hit.d, s.lim) {
         return next(stack, keys, popping(s));
     }
     opened(
@@ -391,6 +351,7 @@ fn run(
         key: square_at(ws, fs, p, 0),
         sp: 0,
         hit: bound,
+        lim: root_tests::limit(bound.d),
         popped: 0,
         evaluated: 0,
         done: GOING,
@@ -442,7 +403,7 @@ pub fn hit(tree: u32, ws: &Words, fs: &Floats, p: Vec3, bound: DistHit) -> Searc
         return search(ws, fs, p, bound);
     }
     Searched {
-        hit: plan::query_linear(ws, fs, p, bound),
+        hit: plan_near::query_linear(ws, fs, p, bound),
         popped: 0,
         evaluated: ws[plan::COUNT_OBJECTS],
         whole: true,
@@ -453,6 +414,6 @@ pub fn hit(tree: u32, ws: &Words, fs: &Floats, p: Vec3, bound: DistHit) -> Searc
 pub fn field(tree: u32, ws: &Words, fs: &Floats, p: Vec3) -> DistHit
     ensures { λ r. ⌜ r ≡ fieldBy tree (now (ws .entry)) (now (fs .entry)) p ⌝ }
 {
-    let s = hit(tree, ws, fs, p, plan::planes_hit(ws, fs, p));
+    let s = hit(tree, ws, fs, p, plan_near::planes_hit(ws, fs, p));
     s.hit
 }

@@ -1,12 +1,8 @@
-// The plan: rows of sixteen words, each held as a whole number and as a float at the same place; its records, its
-// pieces' distances, and the plain list.
+// The plan: rows of sixteen words, each held as a whole number and as a float at the same place; its records.
 ghost use mathlib.Core.Path.{_≡_};
 ghost use Prim.Native.Nat.{_+_, _*_};
-ghost use Rattle.plan.specs.Sections.{cutterRow};
 ghost use Rattle.plan.specs.Records.{wordOf, floatOf, vecOf, noVec, noShape, noHead, materialAt, lightAt};
 ghost use Rattle.plan.specs.Records.{lightIn, cutterAt, headAt};
-ghost use Rattle.plan.specs.Plan.{cutsBy, pieceAt, piecesFrom, planOf};
-ghost use Rattle.plan.specs.Nearest.{cutBy, carve, hitOf, closer, nearest, nothing, listHit};
 use sdf::Shape;
 use vec::Vec3;
 
@@ -292,75 +288,4 @@ fn no_head() -> Head
         shape: no_shape(),
         place: 0,
     }
-}
-
-// The distance d with one cutter taken away.
-fn cut(d: f32, c: Cutter, p: Vec3) -> f32
-    ensures { λ r. ⌜ r ≡ cutBy c p d ⌝ }
-{
-    let shape = c.shape;
-    scalar::max(d, -shape.dist(p))
-}
-
-// The distance d with n cutters from a place on taken away.
-fn carve(ws: &Words, fs: &Floats, place: u32, n: u32, p: Vec3, d: f32) -> f32
-    ensures { λ r. ⌜ r ≡ carve (cutsBy (now (ws .entry)) (now (fs .entry)) (cutterRow + place) n) p d ⌝ }
-{
-    let mut left = d;
-    let mut j: u32 = 0;
-    while j < n {
-        let r = CUTTER_ROW as usize + place as usize + j as usize;
-        left = cut(left, cutter_at(ws, fs, r), p);
-        j += 1;
-    }
-    left
-}
-
-// The hit of the piece in row r.
-pub fn hit_of(ws: &Words, fs: &Floats, r: usize, p: Vec3) -> DistHit
-    ensures { λ h. ⌜ h ≡ hitOf (pieceAt (now (ws .entry)) (now (fs .entry)) r) p ⌝ }
-{
-    let h = head_at(ws, fs, r);
-    let shape = h.shape;
-    DistHit {
-        d: carve(ws, fs, h.place, h.cutters, p, shape.dist(p)),
-        mat: h.material,
-    }
-}
-
-pub fn closer(best: DistHit, hit: DistHit) -> DistHit
-    ensures { λ r. ⌜ r ≡ closer best hit ⌝ }
-{
-    if hit.d < best.d { hit } else { best }
-}
-
-// The best of a hit and n pieces from row r on.
-fn nearest(ws: &Words, fs: &Floats, r: u32, n: u32, p: Vec3, best: DistHit) -> DistHit
-    ensures { λ h. ⌜ h ≡ nearest (piecesFrom (now (ws .entry)) (now (fs .entry)) r n) p best ⌝ }
-{
-    let mut hit = best;
-    let mut j: u32 = 0;
-    while j < n {
-        hit = closer(hit, hit_of(ws, fs, r as usize + j as usize, p));
-        j += 1;
-    }
-    hit
-}
-
-// The objects by the plain list, from a bound.
-pub fn query_linear(ws: &Words, fs: &Floats, p: Vec3, best: DistHit) -> DistHit
-    ensures { λ h. ⌜ h ≡ listHit (planOf (now (ws .entry)) (now (fs .entry))) p best ⌝ }
-{
-    nearest(ws, fs, OBJECT_ROW, ws[COUNT_OBJECTS], p, best)
-}
-
-// The planes, from f32::MAX and material 0.
-pub fn planes_hit(ws: &Words, fs: &Floats, p: Vec3) -> DistHit
-    ensures { λ h. ⌜ h ≡ nearest (planOf (now (ws .entry)) (now (fs .entry)) .planes) p nothing ⌝ }
-{
-    let none = DistHit {
-        d: 3.4028235e38,
-        mat: 0,
-    };
-    nearest(ws, fs, PLANE_ROW, ws[COUNT_PLANES], p, none)
 }

@@ -21,8 +21,8 @@ loop-holds c = let a = c .args in (search needs, hit-none (a .ws .now) (a .fs .n
 loop-again : tie.Need-loop-again Inv-loop μ-loop
 loop-again c = (
   omega arith,
-  rw (hit-more, c .closer .ensures, c .before .hit-in .ensures)
-      (rw (c .before .before .before .loop .inv .1)),
+  rw (hit-more, c .nearer-in .ensures)
+      (rw (c .before .before .loop .inv .1)),
 )
 
 returns : tie.Need-returns Inv-loop μ-loop
@@ -33,4 +33,4 @@ leaf-hit-spec =
     tie.close
     (tie.spec
     Inv-loop μ-loop loop-holds (λ c. search needs) (λ c. search needs) (λ c κs. search needs)
-    (λ c κs. search needs) (λ c. search needs) (λ c. search needs) loop-again returns)
+    (λ c. search needs) (λ c. search needs) loop-again returns)

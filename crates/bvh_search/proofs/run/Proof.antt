@@ -22,21 +22,22 @@ abbrev μ-loop : tie.MeasureT-loop
 loop-holds : tie.Need-loop-holds Inv-loop μ-loop
 loop-holds c = record {
   waits = record {
-    long = c .before .before .before .-stack2 .given .0;
-    wide = c .before .-keys2 .given .0;
+    long = c .before .before .before .before .-stack2 .given .0;
+    wide = c .before .before .-keys2 .given .0;
     room = omega arith;
     small = omega arith;
     going = refl;
+    limit = c .limit .ensures;
     held = λ k h. absurd (omega arith);
   };
-  key = c .square-at .ensures;
+  key = c .before .square-at .ensures;
   run = refl;
 }
 
 returns : tie.Need-returns Inv-loop μ-loop
 returns c = let x = c .before .before .before .before in
     step-law _ _ _ _ _ _ _ _ _ _ (x .before .before .before .before .before .loop .inv)
-    (x .before .before .before .if1 .taken) _ (x .step .ensures) .off (c .before .before .if2 .taken)
+    (x .before .before .before .if1 .taken) _ (x .step .ensures (x .before .before .before .before .before .loop .inv .waits .limit)) .off (c .before .before .if2 .taken)
 
 loop-less : tie.Need-loop-less Inv-loop μ-loop
 loop-less c = let x = c .before .before in
@@ -44,13 +45,13 @@ loop-less c = let x = c .before .before in
       arith,
       x .before .before .before .if1 .taken,
       step-law _ _ _ _ _ _ _ _ _ _ (x .before .before .before .before .before .loop .inv)
-          (x .before .before .before .if1 .taken) _ (x .step .ensures) .pops,
+          (x .before .before .before .if1 .taken) _ (x .step .ensures (x .before .before .before .before .before .loop .inv .waits .limit)) .pops,
     )
 
 loop-again : tie.Need-loop-again Inv-loop μ-loop
 loop-again c = let x = c .before .before in
     step-law _ _ _ _ _ _ _ _ _ _ (x .before .before .before .before .before .loop .inv)
-    (x .before .before .before .if1 .taken) _ (x .step .ensures) .on (c .if2 .left)
+    (x .before .before .before .if1 .taken) _ (x .step .ensures (x .before .before .before .before .before .loop .inv .waits .limit)) .on (c .if2 .left)
 
 returns-2 : tie.Need-returns-2 Inv-loop μ-loop
 returns-2 c = ran-out _ _ _ _ _ _ _ _ _ _ (c .before .before .before .loop .inv) (c .before .if1 .left)
@@ -59,5 +60,5 @@ pub run-spec : {M : Type 1} → statement M
 run-spec =
     tie.close
     (tie.spec
-    Inv-loop μ-loop (λ c κs. search needs) loop-holds (λ c κs. search needs) returns loop-less loop-again
+    Inv-loop μ-loop (λ c κs. search needs) (λ c κs. search needs) loop-holds (λ c κs. search needs) returns loop-less loop-again
     returns-2)

@@ -7,11 +7,18 @@ use Rattle.bvh_search.proofs.scanned.Tie as tie
 returns : tie.Need-returns
 unfolding scannedOf
 returns c =
-    let l = c .before .before .before in
-    rw (c .next .ensures, c .before .wrapping-add-u32 .ensures, l .leaf-hit .ensures, l .before .places .ensures)
+    let l = c .before .before .before .before in
+    rw (
+      c .next .ensures,
+      c .before .wrapping-add-u32 .ensures,
+      c .before .before .limit .ensures,
+      l .leaf-hit .ensures,
+      l .before .places .ensures,
+    )
 
 pub scanned-spec : {M : Type 1} → statement M
 scanned-spec =
     tie.close
     (tie.spec
-    (λ c κs. search needs) (λ c κs. search needs) (λ c κs. search needs) (λ c κs. search needs) returns)
+    (λ c κs. search needs) (λ c κs. search needs) (λ c κs. search needs) (λ c κs. search needs)
+    (λ c κs. search needs) returns)

@@ -7,15 +7,17 @@ use Rattle.bvh_search.proofs.step.Tie as tie
 
 returns : tie.Need-returns
 unfolding steppedOf
-returns c = let test = c .before .before .before .before in
-    rw (sym (test .before .far-off .ensures), test .if1 .taken, c .next .ensures, c .before .popping .ensures)
+returns c = λ e.
+    let test = c .before .before .before .before in
+    rw (sym (test .before .far-off .ensures e), test .if1 .taken, c .next .ensures, c .before .popping .ensures)
 
 returns-2 : tie.Need-returns-2
 unfolding steppedOf
-returns-2 c = let test = c .before .before .before .before .before in
+returns-2 c = λ e.
+    let test = c .before .before .before .before .before in
     let calls = c .before .before in
     rw (
-      sym (test .before .far-off .ensures),
+      sym (test .before .far-off .ensures e),
       test .if1 .left,
       sym (calls .popping2 .ensures),
       sym (c .before .node-at .ensures),

@@ -1,17 +1,16 @@
 -- The search as the code holds it: the node in hand with the square of its box distance, and the others in two tables
 -- of 64 places, the last on top. Definitions only; that it comes to `runOf` is shown in proofs/Machine.antt.
 use Prim.Native.Nat.{ℕ, _+_, _-_, _%_, _^_}
-use mathlib.Core.Bool.{Bool, false, not, cond}
+use mathlib.Core.Bool.{cond}
 use mathlib.Core.List.{List}
 use lib.ListN.{getD, set}
 use lib.Dec.{ltb, eqb}
-use lib.Ieee.{Float, nan, lt, le}
-use Rattle.root.specs.Root.{rootOf}
+use lib.Ieee.{Float, nan}
+use Rattle.root_tests.specs.Inside.Tests.{farOff, leftFirst, limitOf}
 use Rattle.scalar.specs.F32.{f0}
 use Rattle.vec.specs.declared.Vec3.{Vec3}
 use Rattle.vec.specs.Vec.{vsplat, vsub, vmax, vdot}
 use Rattle.sdf.specs.declared.Aabb.{Aabb}
-use Rattle.refusals.specs.Ranges.{greatest}
 use Rattle.bvh_rules.specs.declared.Node.{Node}
 use Rattle.bvh_rules.specs.Nodes.{nodesMost, nodeAt}
 use Rattle.bvh_search.specs.declared.Scan.{Scan}
@@ -25,24 +24,19 @@ gapOf p b = vmax (vmax (vsub (b .lo) p) (vsub p (b .hi))) (vsplat f0)
 unfoldable pub boxSquare : Vec3 → Aabb → Float
 boxSquare p b = vdot (gapOf p b) (gapOf p b)
 
--- above zero and finite
-unfoldable pub usual : Float → Bool
-usual x = cond (lt f0 x) (le x greatest) false
-
-unfoldable pub farOff : Float → Float → Bool
-farOff s d = le d (rootOf s)
-
--- b lies above the root of l, and not above that of r
-unfoldable pub partsRoots : Float → Float → Float → Bool
-partsRoots l r b = cond (farOff r b) (not (farOff l b)) false
-
-unfoldable pub leftFirst : Float → Float → Bool
-leftFirst l r = lt (rootOf l) (rootOf r)
-
 -- the state with the node a in hand
 abbrev pub holding : State → ℕ → Float → ℕ → State
 holding s a key sp =
-    record { at = a; key = key; sp = sp; hit = s .hit; popped = s .popped; evaluated = s .evaluated; done = s .done }
+    record {
+      at = a;
+      key = key;
+      sp = sp;
+      hit = s .hit;
+      lim = s .lim;
+      popped = s .popped;
+      evaluated = s .evaluated;
+      done = s .done;
+    }
 
 abbrev pub ended : State → ℕ → State
 ended s how =
@@ -51,6 +45,7 @@ ended s how =
       key = s .key;
       sp = s .sp;
       hit = s .hit;
+      lim = s .lim;
       popped = s .popped;
       evaluated = s .evaluated;
       done = how;
@@ -63,6 +58,7 @@ popping s =
       key = s .key;
       sp = s .sp;
       hit = s .hit;
+      lim = s .lim;
       popped = (s .popped + 1) % 2 ^ 32;
       evaluated = s .evaluated;
       done = s .done;
@@ -75,6 +71,7 @@ scanned s x =
       key = s .key;
       sp = s .sp;
       hit = x .hit;
+      lim = limitOf (x .hit .d);
       popped = s .popped;
       evaluated = (s .evaluated + x .evaluated) % 2 ^ 32;
       done = s .done;

@@ -1,0 +1,74 @@
+-- The greatest of a, b and 0 is the greater of what each has above 0: by the cases of both. Assumes nothing.
+use mathlib.Core.Path.{_≡_, refl, sym, subst}
+use mathlib.Core.Bool.{Bool, true, false, cond}
+use lib.Dec.{T}
+use lib.Ieee.{Float, ofBits, lt, le, eq}
+use Rattle.scalar.specs.F32.{f0}
+use Rattle.scalar.specs.Extremes.{fmax}
+use Rattle.float_order.specs.Inside.Order.{number, zeroF}
+use Rattle.float_order.proofs.Order.{yes-of, is-yes, is-not, not-of, decide, number-eq, lt-right, lt-trans, lt-le}
+use Rattle.float_order.proofs.Order.{lt-not-le, lt-irrefl, lt-le-trans, le-of-not-lt}
+use Rattle.float_order.proofs.Extremes.{fmax-either}
+use Rattle.float_order.proofs.Rounding.{zero-is}
+
+self : eq f0 f0 ≡ true
+unfolding eq ofBits
+self = refl
+
+-- what x has above 0
+over-zero : (x : Float) → lt f0 x ≡ true → fmax x f0 ≡ x
+unfolding fmax
+over-zero x e = rw e
+
+not-over : (x : Float) → lt f0 x ≡ false → fmax x f0 ≡ f0
+unfolding fmax
+not-over x e = rw (e, self)
+
+module _ (a b : Float) where
+  first : lt f0 a ≡ true → lt f0 b ≡ false → fmax a b ≡ a
+  unfolding fmax
+  first e k = go (lt b a) (eq b b) refl refl
+    where
+      go : (x y : Bool) → lt b a ≡ x → eq b b ≡ y → cond x a (cond y b a) ≡ a
+      go true y p q = refl
+      go false false p q = refl
+      go false true p q =
+          let n : T (number b) = subst T (number-eq b) (yes-of q) in
+          absurd (not-of k (lt-le-trans f0 a b (yes-of e)
+          (le-of-not-lt a b (lt-right f0 a (yes-of e)) n (not-of p))))
+
+  second : lt f0 a ≡ false → lt f0 b ≡ true → fmax a b ≡ b
+  unfolding fmax
+  second e k =
+      let p : lt b a ≡ false = is-not (λ l. not-of e (lt-trans f0 b a (yes-of k) l)) in
+      let q : eq b b ≡ true = is-yes (subst T (sym (number-eq b)) (lt-right f0 b (yes-of k))) in
+      rw (p, q)
+
+  both : lt f0 b ≡ true → fmax a b ≡ cond (lt b a) a b
+  unfolding fmax
+  both k =
+      let q : eq b b ≡ true = is-yes (subst T (sym (number-eq b)) (lt-right f0 b (yes-of k))) in
+      rw q
+
+  neither : lt f0 a ≡ false → lt f0 b ≡ false → lt f0 (fmax a b) ≡ false
+  neither e k = fmax-either (λ (x : Float). lt f0 x ≡ false) a b e k
+
+  of-two : (x : Bool) → lt f0 a ≡ true → lt f0 b ≡ true → lt f0 (cond x a b) ≡ true
+  of-two true e k = e
+  of-two false e k = k
+
+  pub gap-is : cond (lt (fmax b f0) (fmax a f0)) (fmax a f0) (fmax b f0) ≡ fmax (fmax a b) f0
+  gap-is = go (lt f0 a) (lt f0 b) refl refl
+    where
+      go
+          : (x y : Bool) → lt f0 a ≡ x → lt f0 b ≡ y
+          → cond (lt (fmax b f0) (fmax a f0)) (fmax a f0) (fmax b f0) ≡ fmax (fmax a b) f0
+      go true true e k =
+          rw (over-zero a e, over-zero b k, both k, over-zero (cond (lt b a) a b) (of-two (lt b a) e k))
+      go true false e k = rw (not-over b k, first e k, over-zero a e, e)
+      go false true e k =
+          let l : lt b f0 ≡ false = is-not (λ l. lt-irrefl f0 (lt-trans f0 b f0 (yes-of k) l)) in
+          rw (not-over a e, second e k, over-zero b k, l)
+      go false false e k =
+          let l : lt f0 f0 ≡ false = is-not (lt-irrefl f0) in
+          rw (not-over (fmax a b) (neither e k), not-over a e, not-over b k, l)
