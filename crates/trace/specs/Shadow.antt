@@ -8,7 +8,6 @@ use Rattle.scalar.specs.F32.{_⊕_, _⊖_, _⊗_, _⊘_, f0, f1, f2, f0·006, f
 use Rattle.scalar.specs.Extremes.{fmin, fmax, clampOf}
 use Rattle.vec.specs.declared.Vec3.{Vec3}
 use Rattle.trace.specs.declared.Cone.{Cone}
-use Rattle.trace.specs.declared.Gap.{Gap}
 use Rattle.trace.specs.declared.Passed.{Passed}
 use Rattle.trace.specs.declared.Passed.the-variants.{Dark, Going}
 use Rattle.trace.specs.declared.Shadow.{Shadow}
@@ -18,6 +17,10 @@ abbrev pub shadowMost : ℕ
 shadowMost = 96
 
 -- where the segment between the distances ph and h came nearest: y back, d near
+pub record Gap : Type 0 where
+  pub y : Float
+  pub d : Float
+
 abbrev pub backOf : Float → Float → Float
 backOf h ph = h ⊗ h ⊘ (f2 ⊗ ph)
 

@@ -1,8 +1,12 @@
 // Marches through a plan's field, by the tree or by the list: to what a ray meets, and to how much of a light is seen.
 ghost use mathlib.Core.Path.{_≡_};
+ghost use mathlib.Core.Bool.{true};
+ghost use Rattle.root.specs.Root.{rootOf};
+ghost use Rattle.scalar.specs.F32.{_⊗_, _⊘_};
+ghost use Rattle.scalar.specs.Extremes.{fmin};
 ghost use Rattle.bvh_search.specs.Field.{fieldBy};
 ghost use Rattle.trace.specs.Trace.{epsOf, pointAt, steppedOf, traceOf};
-ghost use Rattle.trace.specs.Shadow.{gapOf, darkerOf, passedOf, seenOf, shadowOf};
+ghost use Rattle.trace.specs.Shadow.{darkerOf, passedOf, seenOf, shadowOf};
 use plan::DistHit;
 use plan::Floats;
 use plan::Words;
@@ -47,12 +51,6 @@ pub struct Cone {
 pub enum Passed {
     Dark,
     Going(Cone),
-}
-
-// Where the segment before came nearest: how far back, and how near.
-pub struct Gap {
-    pub y: f32,
-    pub d: f32,
 }
 
 fn eps(t: f32) -> f32
@@ -100,26 +98,44 @@ pub fn trace(tree: u32, ws: &Words, fs: &Floats, ro: Vec3, rd: Vec3, tmin: f32, 
     Traced::Missed(steps)
 }
 
-// Receding, the nearest was the sample before.
-fn gap_of(h: f32, ph: f32) -> Gap
-    ensures { λ r. ⌜ r ≡ gapOf h ph ⌝ }
+// Whether k * root(q) / m leaves no less of the light than res, by a guess w of the root. A `false` tells nothing.
+fn clear(res: f32, q: f32, k: f32, m: f32, w: f32) -> bool
+    ensures { λ x. ⌜ (x ≡ true → fmin res (k ⊗ rootOf q ⊘ m) ≡ res) ⌝ }
 {
-    if h < ph {
-        let y = h * h / (2.0 * ph);
-        return Gap {
-            y,
-            d: root::root(scalar::max(h * h - y * y, 0.0)),
-        };
+    if w > 0.0 {
+        if k >= 0.0 {
+            if m > 0.0 {
+                if res < k * w / m {
+                    return root_tests::reaches(q, w);
+                }
+            }
+        }
     }
-    Gap { y: 0.0, d: h }
+    false
 }
 
-// What is left of the light after the distance h.
+// What is left of the light where the root of q is how near it came: the root is taken only where it may dim the light.
+// The guess w is tested, and nothing rests on which it is but time.
+fn dimmed(res: f32, q: f32, k: f32, m: f32, w: f32) -> f32
+    ensures { λ r. ⌜ r ≡ fmin res (k ⊗ rootOf q ⊘ m) ⌝ }
+{
+    if clear(res, q, k, m, w) {
+        return res;
+    }
+    scalar::min(res, k * root::root(q) / m)
+}
+
+// What is left of the light after the distance h. Receding, the nearest was the sample before. Else y is at most half
+// of h, so that the root is at least 0.866 of h.
 fn darker(c: Cone, h: f32, k: f32) -> f32
     ensures { λ r. ⌜ r ≡ darkerOf c h k ⌝ }
 {
-    let g = gap_of(h, c.ph);
-    scalar::min(c.res, k * g.d / scalar::max(c.t - g.y, 0.0001))
+    if h < c.ph {
+        let y = h * h / (2.0 * c.ph);
+        let q = scalar::max(h * h - y * y, 0.0);
+        return dimmed(c.res, q, k, scalar::max(c.t - y, 0.0001), h * 0.866);
+    }
+    scalar::min(c.res, k * h / scalar::max(c.t - 0.0, 0.0001))
 }
 
 fn passed_of(c: Cone, h: f32, k: f32) -> Passed
