@@ -67,23 +67,23 @@ lays-plan a zs bs n os nw nw′ os′ r eb eo L ez en pos h =
 
 -- ---- a table of floats that are all one
 pub table-of
-    : (n : ℕ) (x : Float) → tableBoxes (replicate (6 * n) x) ≡ replicate n
+    : (n : ℕ) (x : Float) → tableBoxes (replicate (8 * n) x) ≡ replicate n
     (record { lo = vsplat x; hi = vsplat x })
 unfolding vsplat
 table-of n x =
-    let f = replicate (6 * n) x in
-    let k : length f / 6 ≡ n = omega (arith, length-replicate (6 * n) x) in
+    let f = replicate (8 * n) x in
+    let k : length f / 8 ≡ n = omega (arith, length-replicate (8 * n) x) in
     ext-getD noBox (tableBoxes f) (replicate n (record {
       lo =
           vsplat x;
       hi = vsplat x;
     })) (box-count f ∙ k ∙ sym (length-replicate n _)) (λ i h.
     let l : i < n = omega (arith, box-count f) in
-    let g : (d : ℕ) → d < 6 → getD f (6 * i + d) nan ≡ x = λ d q. getD-replicate (6 * n) (6 * i + d) x nan
+    let g : (d : ℕ) → d < 8 → getD f (8 * i + d) nan ≡ x = λ d q. getD-replicate (8 * n) (8 * i + d) x nan
     (omega arith) in
-    let z : getD f (6 * i) nan ≡ x = getD-replicate (6 * n) (6 * i) x nan (omega arith) in
+    let z : getD f (8 * i) nan ≡ x = getD-replicate (8 * n) (8 * i) x nan (omega arith) in
     box-here f i (omega arith)
-    ∙ rw (z, g 1 (omega arith), g 2 (omega arith), g 3 (omega arith), g 4 (omega arith), g 5 (omega arith))
+    ∙ rw (z, g 1 (omega arith), g 2 (omega arith), g 4 (omega arith), g 5 (omega arith), g 6 (omega arith))
     (sym (getD-replicate n i (record { lo = vsplat x; hi = vsplat x }) noBox l)))
 
 -- ---- the whole

@@ -17,10 +17,12 @@ use plan::Order;
 use plan::Words;
 use sdf::Aabb;
 
-// The numbers that a word can be, and the floats of the boxes of all objects.
+// The numbers that a word can be, and the floats of the boxes of all objects and of a span.
 const WORDS: usize = 4294967296;
 
-const BOXES_FLOATS: usize = 1536;
+const BOXES_FLOATS: usize = 2048;
+
+const SPAN_FLOATS: usize = 16;
 
 // The next free place, and whether no node is too deep.
 pub struct Built {
@@ -72,6 +74,7 @@ fn build_recursive(
     nw: &mut Nodes,
     os: &mut [u32],
     t: &[f32],
+    kept: &mut [f32; 16],
     at: usize,
     start: usize,
     levels: usize,
@@ -87,7 +90,7 @@ fn build_recursive(
             low: false,
         };
     }
-    let s = bvh_split::span_of(os, t);
+    let s = bvh_split::span_of(os, t, kept);
     let hull = s.hull;
     let centres = s.centres;
     if bvh_split::stops(n, bvh_split::extent(centres)) {
@@ -99,10 +102,10 @@ fn build_recursive(
     }
     let mid = bvh_split::cut(os, t, centres);
     let below = less(levels);
-    let left = build_recursive(nw, &mut os[..mid], t, at + 1, start, below);
+    let left = build_recursive(nw, &mut os[..mid], t, kept, at + 1, start, below);
     put_node(nw, at, hull, 0, 0, narrow(left.next));
     let second = std::num::wrapping_add_usize(start, mid);
-    let right = build_recursive(nw, &mut os[mid..], t, left.next, second, below);
+    let right = build_recursive(nw, &mut os[mid..], t, kept, left.next, second, below);
     Built {
         next: right.next,
         low: refusals::both(left.low, right.low),
@@ -133,7 +136,7 @@ fn number(os: &mut [u32])
     }
 }
 
-fn build_with(ws: &Words, fs: &Floats, nw: &mut Nodes, os: &mut [u32], t: &mut [f32; 1536]) -> Built
+fn build_with(ws: &Words, fs: &Floats, nw: &mut Nodes, os: &mut [u32], t: &mut [f32; 2048]) -> Built
     ensures { λ r. ⌜ (tableBoxes (now (t .entry)) ≡ replicate 256 zeroBox
         → length (now (os .entry)) ≡ length (planOf (now (ws .entry)) (now (fs .entry)) .objects)
         → 0 < length (planOf (now (ws .entry)) (now (fs .entry)) .objects)
@@ -143,7 +146,8 @@ fn build_with(ws: &Words, fs: &Floats, nw: &mut Nodes, os: &mut [u32], t: &mut [
 {
     load_boxes(ws, fs, t);
     number(os);
-    build_recursive(nw, os, t, 0, 0, bvh_rules::LEVELS)
+    let mut kept = [0.0f32; SPAN_FLOATS];
+    build_recursive(nw, os, t, &mut kept, 0, 0, bvh_rules::LEVELS)
 }
 
 // The tree of n objects, the first n places of the order being theirs.

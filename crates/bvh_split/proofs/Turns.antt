@@ -16,13 +16,14 @@ use Rattle.bvh_boxes.specs.Boxes.{nowhere, merge, boxAt}
 use Rattle.bvh_split.specs.declared.Grid.{Grid}
 use Rattle.bvh_split.specs.declared.Span.{Span}
 use Rattle.bvh_split.specs.declared.Sweep.{Sweep}
-use Rattle.bvh_split.specs.Inside.Table.{tableBoxes, putBox}
-use Rattle.bvh_split.specs.Range.{members, grow, spanFrom}
+use Rattle.bvh_split.specs.declared.Row.{Row}
+use Rattle.bvh_split.specs.Inside.Table.{tableBoxes, boxIn, putRow}
+use Rattle.bvh_split.specs.Range.{members, point, grow, spanFrom}
 use Rattle.bvh_split.specs.Bins.{binOf, plus, Bins, noBins, dropIn, binsFrom, area, leftBox, leftCount, takeBin}
 use Rattle.bvh_split.specs.Bins.{choose, stepAt, sweepFrom, splitBy}
 use Rattle.bvh_split.specs.Inside.Sums.{binned, leftArea, leftThrough}
 use Rattle.bvh_split.specs.Part.{swapped, goesLeft, Parted, partFrom}
-use Rattle.bvh_split.proofs.Table.{box-count, length-put-box, boxes-put}
+use Rattle.bvh_split.proofs.Table.{box-count, length-put-row, rows-put}
 
 -- ---- over the objects of a range
 module _ (bs : List Aabb) (os : List ℕ) (i : ℕ) where
@@ -34,11 +35,21 @@ module _ (bs : List Aabb) (os : List ℕ) (i : ℕ) where
   unfolding members
   members-none h = rw (drop-of-length-le os h)
 
-  pub span-more : (s : Span) → i < length os
+  span-more : (s : Span) → i < length os
       → spanFrom s (members bs (drop i os)) ≡ spanFrom (grow s (boxAt bs (getD os i 0)))
       (members bs (drop (i + 1) os))
   unfolding spanFrom
   span-more s h = rw (members-more h)
+
+  -- by a hull and centres that are held apart
+  pub span-turn
+      : (h h' c c' m p : Aabb) (s : Span) → i < length os
+      → m ≡ boxAt bs (getD os i 0) → h' ≡ merge h m → p ≡ point m → c' ≡ merge c p
+      → spanFrom (record { hull = h; centres = c }) (members bs (drop i os)) ≡ s
+      → spanFrom (record { hull = h'; centres = c' }) (members bs (drop (i + 1) os)) ≡ s
+  unfolding grow
+  span-turn h h' c c' m p s l e₁ e₂ e₃ e₄ v =
+      rw (e₂, e₄, e₃, e₁) (sym (span-more (record { hull = h; centres = c }) l) ∙ v)
 
   pub span-none : (s : Span) → length os ≤ i → spanFrom s (members bs (drop i os)) ≡ s
   unfolding spanFrom
@@ -56,36 +67,36 @@ module _ (bs : List Aabb) (os : List ℕ) (i : ℕ) where
 
 -- a box dropped into the two arrays is dropped into the bins that they hold
 drop-binned : (g : Grid) (f f' : List Float) (n n' : List ℕ) (k : ℕ) (m : Aabb) → k ≡ binOf g m
-    → f' ≡ putBox f k (merge (boxAt (tableBoxes f) k) m) → n' ≡ set n k (plus (getD n k 0) 1)
+    → tableBoxes f' ≡ set (tableBoxes f) k (merge (boxAt (tableBoxes f) k) m) → n' ≡ set n k (plus (getD n k 0) 1)
     → binned f' n' ≡ dropIn g (binned f n) m
 unfolding dropIn
-drop-binned g f f' n n' k m e p q = rw (p, q, boxes-put, e)
+drop-binned g f f' n n' k m e p q = rw (p, q, e)
 
 pub bins-turn
     : (bs : List Aabb) (os : List ℕ) (i : ℕ) (g : Grid) (f f' : List Float) (n n' : List ℕ) (k : ℕ) (m : Aabb)
     (σ : Bins)
     → i < length os
     → m ≡ boxAt bs (getD os i 0) → k ≡ binOf g m
-    → f' ≡ putBox f k (merge (boxAt (tableBoxes f) k) m) → n' ≡ set n k (plus (getD n k 0) 1)
+    → tableBoxes f' ≡ set (tableBoxes f) k (merge (boxAt (tableBoxes f) k) m) → n' ≡ set n k (plus (getD n k 0) 1)
     → binsFrom g (binned f n) (members bs (drop i os)) ≡ σ → binsFrom g (binned f' n')
     (members bs (drop (i + 1) os)) ≡ σ
 bins-turn bs os i g f f' n n' k m σ h e₁ e₂ p q v =
     rw (drop-binned g f f' n n' k m e₂ p q, e₁) (sym (bins-more bs os i g (binned f n) h) ∙ v)
 
 -- ---- a table filled with empty boxes
-module _ (t t' : List Float) (k : ℕ) (b : Aabb) (p : t' ≡ putBox t k b) where
+module _ (t t' : List Float) (k : ℕ) (b : Row) (p : t' ≡ putRow t k b) where
   pub length-turn : length t' ≡ length t
-  length-turn = ap length p ∙ length-put-box t k b
+  length-turn = ap length p ∙ length-put-row t k b
 
   pub empty-turn
-      : b ≡ nowhere → k < length t / 6 → take k (tableBoxes t) ≡ replicate k nowhere
+      : boxIn b ≡ nowhere → k < length t / 8 → take k (tableBoxes t) ≡ replicate k nowhere
       → take (k + 1) (tableBoxes t') ≡ replicate (k + 1) nowhere
   empty-turn e h q =
-      rw (p, boxes-put, e, add-one, take-suc-set (tableBoxes t) k nowhere (omega (arith, box-count t)), q)
+      rw (p, rows-put, e, add-one, take-suc-set (tableBoxes t) k nowhere (omega (arith, box-count t)), q)
       (replicate-append-replicate k 1 nowhere ∙ ap (λ (n : ℕ). replicate n nowhere) (add-one k))
 
 pub empty-all
-    : (t : List Float) (k n : ℕ) → length t / 6 ≡ n → n ≤ k → k ≤ n
+    : (t : List Float) (k n : ℕ) → length t / 8 ≡ n → n ≤ k → k ≤ n
     → take k (tableBoxes t) ≡ replicate k nowhere
     → tableBoxes t ≡ replicate n nowhere
 empty-all t k n e h h' p =

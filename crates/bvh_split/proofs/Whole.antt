@@ -1,13 +1,14 @@
 -- A float cut to a whole number, by the tests with 0 and with 11: what the cut asks for, and what it gives. By the
 -- cases of a value. Assumes nothing.
-use Prim.Native.Nat.{ℕ, _+_, _*_, _/_, _^_, _≤_, _<_}
+use Prim.Native.Nat.{ℕ, _+_, _*_, _/_, _^_, _≤_, _<_, min}
 use mathlib.Core.Path.{_≡_, refl, sym, ap, subst, _∙_}
-use mathlib.Core.Bool.{true, false}
-use native.Mathlib.Nat.{zero-div, mul-one, div-lt-iff-lt-mul, le-div-iff-mul-le, lt-of-lt-of-le, mul-le-mul-right}
+use mathlib.Core.Bool.{Bool, true, false, cond}
+use native.Mathlib.Nat.{min-eq-left, zero-div, mul-one, div-lt-iff-lt-mul, le-div-iff-mul-le, lt-of-lt-of-le}
+use native.Mathlib.Nat.{mul-le-mul-right}
 use native.Mathlib.Omega.{arith}
 use borrow.Author.Needs.{zero≤}
 use borrow.Author.Tests.{lt-ltb, ltb-true, ltb-false}
-use lib.Dec.{T, lit≤}
+use lib.Dec.{T, lit≤, lit<}
 use lib.IntN.{pos}
 use lib.Ieee.{Float, nan, inf, fin, up, down, lt, toUnsigned}
 use lib.Ieee.Fits.{down-pos}
@@ -74,3 +75,38 @@ below-the-top (fin false m e) h =
     let g : m * up e * 1 < 11 * 1 * down e = ltb-true _ _ h in
     let p : m * up e * 1 < 1 * up (pos 64) * down e = lt-of-lt-of-le g (mul-le-mul-right (down e) (lit≤ tt)) in
     subst T (sym (lt-ltb _ _ p)) tt
+
+-- ---- a float brought between 0 and 11 is cut to the bin
+pub record Cuts (x z : Float) : Type 0 where
+  pub above : T (lt (fin true 1 (pos 0)) z)
+  pub below : T (lt z (fin false 1 (pos 64)))
+  pub is : toUnsigned 64 z ≡ min (toUnsigned 64 x) 11
+
+last-of
+    : (x : Float) (b : Bool) → lt (whole 0) x ≡ true → lt x (whole 11) ≡ b
+    → Cuts x (cond b x (whole 11))
+unfolding lt toUnsigned
+last-of x true p q =
+    record {
+      above = above-minus-one x p;
+      below = below-the-top x q;
+      is = sym (min-eq-left (cut-below x 11 q));
+    }
+last-of x false p q =
+    let h = cut-above x 11 (lit< tt) p q in
+    record { above = tt; below = tt; is = omega arith }
+
+none-of : (x : Float) → lt (whole 0) x ≡ false → Cuts x (cond (lt (whole 0) (whole 11)) (whole 0) (whole 11))
+unfolding lt toUnsigned
+none-of x p = let h = cut-none x p in record { above = tt; below = tt; is = omega arith }
+
+abbrev from-first : Float → Float
+from-first x = cond (lt (whole 0) x) x (whole 0)
+
+pub cuts : (x : Float) → Cuts x (cond (lt (from-first x) (whole 11)) (from-first x) (whole 11))
+cuts x = go (lt (whole 0) x) refl
+  where
+    go : (b : Bool) → lt (whole 0) x ≡ b
+        → Cuts x (cond (lt (cond b x (whole 0)) (whole 11)) (cond b x (whole 0)) (whole 11))
+    go true p = last-of x (lt x (whole 11)) p refl
+    go false p = none-of x p

@@ -1,2 +1,4 @@
 pub mod Table
 pub mod Sums
+pub mod Places
+pub mod Numbers

@@ -1,31 +1,38 @@
 // One node of the builder: the range of objects it covers, whether it is a leaf, and where the source cuts it in two.
 ghost use mathlib.Core.Path.{_≡_};
-ghost use Prim.Native.Nat.{_/_};
+ghost use Prim.Native.Nat.{ℕ, _/_, _≤_, _<_};
+ghost use mathlib.Core.Bool.{cond};
+ghost use lib.Dec.{ltb};
 ghost use lib.ListN.{length, getD, set, replicate};
 ghost use Rattle.words.specs.Lists.{listFrom};
+ghost use Rattle.scalar.specs.F32.{f0, fhalf};
+ghost use Rattle.vec.specs.Vec.{vadd, vscale, vmin, vmax};
 ghost use Rattle.bvh_boxes.specs.Boxes.{nowhere, merge, boxAt};
-ghost use Rattle.bvh_split.specs.Range.{members, point, grow, spanOf, extentOf, axisOf, stops};
+ghost use Rattle.bvh_split.specs.Range.{members, point, spanOf, extentOf, axisOf, stops};
 ghost use Rattle.bvh_split.specs.Bins.{gridOf, binAt, binOf, plus, noBins, binsFrom, area};
 ghost use Rattle.bvh_split.specs.Bins.{costOf, choose, takeBin, splitBy};
-ghost use Rattle.bvh_split.specs.Part.{swapped, goesLeft, parted, evened, cutOf};
-ghost use Rattle.bvh_split.specs.Inside.Table.{tableBoxes, putBox};
+ghost use Rattle.bvh_split.specs.Part.{swapped, parted, evened, cutOf};
+ghost use Rattle.bvh_split.specs.Inside.Table.{tableBoxes, corner, boxIn, putRow, putBox};
 ghost use Rattle.bvh_split.specs.Inside.Sums.{binned, leftArea, leftThrough};
+ghost use Rattle.bvh_split.specs.Inside.Numbers.{lesserOf, greaterOf, Numbers};
+ghost use Rattle.bvh_split.specs.Inside.Places.{fromFirst, toLast, Noted};
 use sdf::Aabb;
 use vec::Vec3;
 
 // A box's floats in a table.
-const BOX_FLOATS: usize = 6;
+const BOX_FLOATS: usize = 8;
 
-// The bins, their floats, the last bin, the split that is tried first, and the one where none is better.
+// The bins, their floats, the split that is tried first, and the one where none is better.
 const BINS: usize = 12;
 
-const BIN_FLOATS: usize = 72;
-
-const LAST_BIN: usize = 11;
+const BIN_FLOATS: usize = 96;
 
 const LAST_SPLIT: u32 = 11;
 
 const MIDDLE: u32 = 6;
+
+// The places of a range whose bins are noted.
+const PLACES: usize = 256;
 
 // A leaf by its number of objects, and by the extent of their centres.
 const LEAF_MOST: usize = 4;
@@ -53,40 +60,174 @@ pub struct Sweep {
     pub split: u32,
 }
 
+// A corner and a spare: four floats are worked on at once, three one by one.
+pub struct Four {
+    pub x: f32,
+    pub y: f32,
+    pub z: f32,
+    pub w: f32,
+}
+
+// A box as it lies in a table.
+pub struct Row {
+    pub lo: Four,
+    pub hi: Four,
+}
+
+fn splat(a: f32) -> Four
+    ensures { λ r. ⌜ r ≡ record { x = a; y = a; z = a; w = a } ⌝ }
+{
+    Four {
+        x: a,
+        y: a,
+        z: a,
+        w: a,
+    }
+}
+
+fn lower(a: Four, b: Four) -> Four
+    ensures { λ r. ⌜ corner r ≡ vmin (corner a) (corner b) ⌝ }
+{
+    Four {
+        x: scalar::min(a.x, b.x),
+        y: scalar::min(a.y, b.y),
+        z: scalar::min(a.z, b.z),
+        w: scalar::min(a.w, b.w),
+    }
+}
+
+fn upper(a: Four, b: Four) -> Four
+    ensures { λ r. ⌜ corner r ≡ vmax (corner a) (corner b) ⌝ }
+{
+    Four {
+        x: scalar::max(a.x, b.x),
+        y: scalar::max(a.y, b.y),
+        z: scalar::max(a.z, b.z),
+        w: scalar::max(a.w, b.w),
+    }
+}
+
+fn halfway(a: Four, b: Four) -> Four
+    ensures { λ r. ⌜ corner r ≡ vscale (vadd (corner a) (corner b)) fhalf ⌝ }
+{
+    Four {
+        x: (a.x + b.x) * 0.5,
+        y: (a.y + b.y) * 0.5,
+        z: (a.z + b.z) * 0.5,
+        w: (a.w + b.w) * 0.5,
+    }
+}
+
+fn join(a: Row, b: Row) -> Row
+    ensures { λ r. ⌜ boxIn r ≡ merge (boxIn a) (boxIn b) ⌝ }
+{
+    Row {
+        lo: lower(a.lo, b.lo),
+        hi: upper(a.hi, b.hi),
+    }
+}
+
+fn middle(b: Row) -> Row
+    ensures { λ r. ⌜ boxIn r ≡ point (boxIn b) ⌝ }
+{
+    let c = halfway(b.lo, b.hi);
+    Row { lo: c, hi: c }
+}
+
+fn no_row() -> Row
+    ensures { λ r. ⌜ boxIn r ≡ nowhere ⌝ }
+{
+    Row {
+        lo: splat(refusals::GREATEST),
+        hi: splat(-refusals::GREATEST),
+    }
+}
+
+fn box_in(r: Row) -> Aabb
+    ensures { λ r'. ⌜ r' ≡ boxIn r ⌝ }
+{
+    let lo = r.lo;
+    let hi = r.hi;
+    Aabb {
+        lo: Vec3 {
+            x: lo.x,
+            y: lo.y,
+            z: lo.z,
+        },
+        hi: Vec3 {
+            x: hi.x,
+            y: hi.y,
+            z: hi.z,
+        },
+    }
+}
+
 // Box k of a table; past the last one what lies within no box.
-fn box_at(t: &[f32], k: usize) -> Aabb
-    ensures { λ r. ⌜ r ≡ boxAt (tableBoxes (now (t .entry))) k ⌝ }
+fn row_at(t: &[f32], k: usize) -> Row
+    ensures { λ r. ⌜ boxIn r ≡ boxAt (tableBoxes (now (t .entry))) k ⌝ }
 {
     if k < t.len() / BOX_FLOATS {
         let i = BOX_FLOATS * k;
-        return Aabb {
-            lo: Vec3 {
+        return Row {
+            lo: Four {
                 x: t[i],
                 y: t[i + 1],
                 z: t[i + 2],
+                w: t[i + 3],
             },
-            hi: Vec3 {
-                x: t[i + 3],
-                y: t[i + 4],
-                z: t[i + 5],
+            hi: Four {
+                x: t[i + 4],
+                y: t[i + 5],
+                z: t[i + 6],
+                w: t[i + 7],
             },
         };
     }
-    bvh_boxes::no_box()
+    let none = splat(0.0 / 0.0);
+    Row { lo: none, hi: none }
+}
+
+fn box_at(t: &[f32], k: usize) -> Aabb
+    ensures { λ r. ⌜ r ≡ boxAt (tableBoxes (now (t .entry))) k ⌝ }
+{
+    box_in(row_at(t, k))
+}
+
+fn put_row(t: &mut [f32], k: usize, r: Row)
+    ensures { λ _. ⌜ now (t .exit) ≡ putRow (now (t .entry)) k r ⌝ }
+{
+    if k < t.len() / BOX_FLOATS {
+        let i = BOX_FLOATS * k;
+        t[i] = r.lo.x;
+        t[i + 1] = r.lo.y;
+        t[i + 2] = r.lo.z;
+        t[i + 3] = r.lo.w;
+        t[i + 4] = r.hi.x;
+        t[i + 5] = r.hi.y;
+        t[i + 6] = r.hi.z;
+        t[i + 7] = r.hi.w;
+    }
+}
+
+fn spare_after(a: Vec3) -> Four
+    ensures { λ r. ⌜ r ≡ record { x = a .x; y = a .y; z = a .z; w = f0 } ⌝ }
+{
+    Four {
+        x: a.x,
+        y: a.y,
+        z: a.z,
+        w: 0.0,
+    }
 }
 
 pub fn put_box(t: &mut [f32], k: usize, b: Aabb)
     ensures { λ _. ⌜ now (t .exit) ≡ putBox (now (t .entry)) k b ⌝ }
 {
-    if k < t.len() / BOX_FLOATS {
-        let i = BOX_FLOATS * k;
-        t[i] = b.lo.x;
-        t[i + 1] = b.lo.y;
-        t[i + 2] = b.lo.z;
-        t[i + 3] = b.hi.x;
-        t[i + 4] = b.hi.y;
-        t[i + 5] = b.hi.z;
-    }
+    let r = Row {
+        lo: spare_after(b.lo),
+        hi: spare_after(b.hi),
+    };
+    put_row(t, k, r);
 }
 
 // The object at a place of a range, 0 past its end.
@@ -100,41 +241,31 @@ fn object_at(os: &[u32], i: usize) -> u32
 }
 
 // The box of the object at a place of a range.
-fn member(os: &[u32], t: &[f32], i: usize) -> Aabb
-    ensures { λ r. ⌜ r ≡ boxAt (tableBoxes (now (t .entry))) (getD (now (os .entry)) i 0) ⌝ }
+fn member(os: &[u32], t: &[f32], i: usize) -> Row
+    ensures { λ r. ⌜ boxIn r ≡ boxAt (tableBoxes (now (t .entry))) (getD (now (os .entry)) i 0) ⌝ }
 {
-    box_at(t, object_at(os, i) as usize)
+    row_at(t, object_at(os, i) as usize)
 }
 
-fn point(b: Aabb) -> Aabb
-    ensures { λ r. ⌜ r ≡ point b ⌝ }
-{
-    let c = b.centre();
-    Aabb { lo: c, hi: c }
-}
-
-fn grow(s: Span, b: Aabb) -> Span
-    ensures { λ r. ⌜ r ≡ grow s b ⌝ }
-{
-    Span {
-        hull: bvh_boxes::merge(s.hull, b),
-        centres: bvh_boxes::merge(s.centres, point(b)),
-    }
-}
-
-pub fn span_of(os: &[u32], t: &[f32]) -> Span
+// What is kept in `kept` is never read: it makes the compiler hold all four floats of each row side by side.
+pub fn span_of(os: &[u32], t: &[f32], kept: &mut [f32; 16]) -> Span
     ensures { λ r. ⌜ r ≡ spanOf (tableBoxes (now (t .entry))) (now (os .entry)) ⌝ }
 {
-    let mut s = Span {
-        hull: bvh_boxes::nowhere(),
-        centres: bvh_boxes::nowhere(),
-    };
+    let mut hull = no_row();
+    let mut centres = no_row();
     let mut i: usize = 0;
     while i < os.len() {
-        s = grow(s, member(os, t, i));
+        let m = member(os, t, i);
+        hull = join(hull, m);
+        centres = join(centres, middle(m));
         i += 1;
     }
-    s
+    put_row(kept, 0, hull);
+    put_row(kept, 1, centres);
+    Span {
+        hull: box_in(hull),
+        centres: box_in(centres),
+    }
 }
 
 pub fn extent(c: Aabb) -> Vec3
@@ -178,20 +309,28 @@ fn grid_of(c: Aabb) -> Grid
     }
 }
 
-// A float cut to a bin's number.
-fn bin_at(x: f32) -> usize
-    ensures { λ r. ⌜ r ≡ binAt x ⌝ }
+// What is not above 0 becomes 0.
+fn from_first(x: f32) -> f32
+    ensures { λ r. ⌜ r ≡ fromFirst x ⌝ }
 {
-    if x > 0.0 {
-        if x < 11.0 {
-            return std::num::truncating_f32_to_u64(x) as usize;
-        }
-        return LAST_BIN;
-    }
-    0
+    if x > 0.0 { x } else { 0.0 }
 }
 
-fn bin_of(g: Grid, b: Aabb) -> usize
+// What is not below 11 becomes 11.
+fn to_last(x: f32) -> f32
+    ensures { λ r. ⌜ r ≡ toLast x ⌝ }
+{
+    if x < 11.0 { x } else { 11.0 }
+}
+
+// A float cut to a bin's number, with no way that depends on it.
+fn bin_at(x: f32) -> u32
+    ensures { λ r. ⌜ r ≡ binAt x ⌝ }
+{
+    std::num::truncating_f32_to_u64(to_last(from_first(x))) as u32
+}
+
+fn bin_of(g: Grid, b: Aabb) -> u32
     ensures { λ r. ⌜ r ≡ binOf g b ⌝ }
 {
     let c = b.centre();
@@ -210,11 +349,11 @@ fn plus(a: u32, b: u32) -> u32
 
 // A table of boxes around nothing.
 fn empty_boxes(t: &mut [f32])
-    ensures { λ _. ⌜ tableBoxes (now (t .exit)) ≡ replicate (length (now (t .entry)) / 6) nowhere ⌝ }
+    ensures { λ _. ⌜ tableBoxes (now (t .exit)) ≡ replicate (length (now (t .entry)) / 8) nowhere ⌝ }
 {
     let mut k: usize = 0;
     while k < t.len() / BOX_FLOATS {
-        put_box(t, k, bvh_boxes::nowhere());
+        put_row(t, k, no_row());
         k += 1;
     }
 }
@@ -231,24 +370,48 @@ fn count_in(n: &mut [u32; 12], k: usize)
 }
 
 // One box more in bin k.
-fn drop_in(t: &mut [f32; 72], n: &mut [u32; 12], k: usize, b: Aabb)
-    ensures { λ _. ⌜ (now (t .exit) ≡ putBox (now (t .entry)) k (merge (boxAt (tableBoxes (now (t .entry))) k) b))
+fn drop_in(t: &mut [f32; 96], n: &mut [u32; 12], k: usize, b: Row)
+    ensures { λ _. ⌜ (tableBoxes (now (t .exit)) ≡ set (tableBoxes (now (t .entry))) k
+        (merge (boxAt (tableBoxes (now (t .entry))) k) (boxIn b)))
         × (now (n .exit) ≡ set (now (n .entry)) k (plus (getD (now (n .entry)) k 0) 1)) ⌝ }
 {
     count_in(n, k);
-    let m = bvh_boxes::merge(box_at(t, k), b);
-    put_box(t, k, m);
+    let m = join(row_at(t, k), b);
+    put_row(t, k, m);
 }
 
-// The bins of a range.
-fn fill_bins(os: &[u32], t: &[f32], g: Grid, b: &mut [f32; 72], n: &mut [u32; 12])
-    ensures { λ _. ⌜ binned (now (b .exit)) (now (n .exit)) ≡ binsFrom g (binned (now (b .entry)) (now (n .entry)))
-        (members (tableBoxes (now (t .entry))) (now (os .entry))) ⌝ }
+// The bin of the object at a place, noted where the table has that place.
+fn note(places: &mut [u32; 256], i: usize, k: u32)
+    ensures { λ _. ⌜ now (places .exit) ≡ set (now (places .entry)) i k ⌝ }
 {
+    if i < PLACES {
+        places[i] = k;
+    } else {
+        let _places: &[u32] = places;
+    }
+}
+
+// The bins of a range, each object's noted at its place.
+fn fill_bins(
+    os: &[u32],
+    t: &[f32],
+    g: Grid,
+    b: &mut [f32; 96],
+    n: &mut [u32; 12],
+    places: &mut [u32; 256],
+)
+    ensures { λ _. ⌜ (binned (now (b .exit)) (now (n .exit)) ≡ binsFrom g (binned (now (b .entry)) (now (n .entry)))
+        (members (tableBoxes (now (t .entry))) (now (os .entry))))
+        × Noted (tableBoxes (now (t .entry))) g (now (os .entry)) (now (places .exit))
+        (length (now (os .entry))) ⌝ }
+{
+    let _places: &[u32] = places;
     let mut i: usize = 0;
     while i < os.len() {
         let m = member(os, t, i);
-        drop_in(b, n, bin_of(g, m), m);
+        let k = bin_of(g, box_in(m));
+        note(places, i, k);
+        drop_in(b, n, k as usize, m);
         i += 1;
     }
 }
@@ -264,8 +427,38 @@ fn area(b: Aabb) -> f32
     2.0 * (d.x * d.y + d.y * d.z + d.z * d.x)
 }
 
+fn lesser(a: f32, b: f32) -> f32
+    ensures { λ r. ⌜ r ≡ lesserOf a b ⌝ }
+{
+    if b <= a { b } else { a }
+}
+
+fn greater(a: f32, b: f32) -> f32
+    ensures { λ r. ⌜ r ≡ greaterOf a b ⌝ }
+{
+    if b >= a { b } else { a }
+}
+
+// The least box around both, for an a whose corners are numbers: one test a float, as none of a is looked at.
+fn wider(a: Aabb, b: Aabb) -> Aabb
+    ensures { λ r. ⌜ (Numbers a → r ≡ merge a b) ⌝ }
+{
+    Aabb {
+        lo: Vec3 {
+            x: lesser(a.lo.x, b.lo.x),
+            y: lesser(a.lo.y, b.lo.y),
+            z: lesser(a.lo.z, b.lo.z),
+        },
+        hi: Vec3 {
+            x: greater(a.hi.x, b.hi.x),
+            y: greater(a.hi.y, b.hi.y),
+            z: greater(a.hi.z, b.hi.z),
+        },
+    }
+}
+
 // For each bin the area and the count of the bins up to it.
-fn sweep_left(b: &[f32; 72], n: &[u32; 12], areas: &mut [f32; 12], counts: &mut [u32; 12])
+fn sweep_left(b: &[f32; 96], n: &[u32; 12], areas: &mut [f32; 12], counts: &mut [u32; 12])
     ensures { λ _. ⌜ (now (areas .exit) ≡ listFrom (leftArea (binned (now (b .entry)) (now (n .entry)))) 0 12)
         × (now (counts .exit) ≡ listFrom (leftThrough (binned (now (b .entry)) (now (n .entry)))) 0 12) ⌝ }
 {
@@ -275,7 +468,7 @@ fn sweep_left(b: &[f32; 72], n: &[u32; 12], areas: &mut [f32; 12], counts: &mut 
     let mut count: u32 = 0;
     let mut i: usize = 0;
     while i < BINS {
-        hull = bvh_boxes::merge(hull, box_at(b, i));
+        hull = wider(hull, box_at(b, i));
         count = plus(count, n[i]);
         areas[i] = area(hull);
         counts[i] = count;
@@ -290,10 +483,10 @@ fn cost(la: f32, lc: u32, b: Aabb, n: u32) -> f32
 }
 
 fn take_bin(s: Sweep, b: Aabb, n: u32) -> Sweep
-    ensures { λ r. ⌜ r ≡ takeBin s b n ⌝ }
+    ensures { λ r. ⌜ (Numbers (s .hull) → r ≡ takeBin s b n) ⌝ }
 {
     Sweep {
-        hull: bvh_boxes::merge(s.hull, b),
+        hull: wider(s.hull, b),
         count: plus(s.count, n),
         cost: s.cost,
         split: s.split,
@@ -323,7 +516,7 @@ fn choose(s: Sweep, la: f32, lc: u32, i: u32) -> Sweep
 }
 
 // The best split, tried from 11 down, given the areas and counts to the left.
-fn sweep_right(b: &[f32; 72], n: &[u32; 12], areas: &[f32; 12], counts: &[u32; 12]) -> u32
+fn sweep_right(b: &[f32; 96], n: &[u32; 12], areas: &[f32; 12], counts: &[u32; 12]) -> u32
     ensures { λ r. ⌜ (now (areas .entry) ≡ listFrom (leftArea (binned (now (b .entry)) (now (n .entry)))) 0 12
         → now (counts .entry) ≡ listFrom (leftThrough (binned (now (b .entry)) (now (n .entry)))) 0 12
         → r ≡ splitBy (binned (now (b .entry)) (now (n .entry)))) ⌝ }
@@ -344,23 +537,57 @@ fn sweep_right(b: &[f32; 72], n: &[u32; 12], areas: &[f32; 12], counts: &[u32; 1
     s.split
 }
 
-fn best_split(os: &[u32], t: &[f32], g: Grid) -> u32
-    ensures { λ r. ⌜ r ≡ splitBy (binsFrom g noBins (members (tableBoxes (now (t .entry))) (now (os .entry)))) ⌝ }
+fn best_split(os: &[u32], t: &[f32], g: Grid, places: &mut [u32; 256]) -> u32
+    ensures { λ r. ⌜ (r ≡ splitBy (binsFrom g noBins (members (tableBoxes (now (t .entry))) (now (os .entry)))))
+        × Noted (tableBoxes (now (t .entry))) g (now (os .entry)) (now (places .exit))
+        (length (now (os .entry))) ⌝ }
 {
     let mut b = [0.0f32; BIN_FLOATS];
     let mut n = [0u32; BINS];
     let mut areas = [0.0f32; BINS];
     let mut counts = [0u32; BINS];
     empty_boxes(&mut b);
-    fill_bins(os, t, g, &mut b, &mut n);
+    fill_bins(os, t, g, &mut b, &mut n, places);
     sweep_left(&b, &n, &mut areas, &mut counts);
     sweep_right(&b, &n, &areas, &counts)
 }
 
-fn goes_left(t: &[f32], g: Grid, split: u32, o: u32) -> bool
-    ensures { λ r. ⌜ r ≡ goesLeft (tableBoxes (now (t .entry))) g split o ⌝ }
+// The bin of the object at a place, as noted or worked out again.
+fn place_at(places: &[u32; 256], i: usize, g: Grid, os: &[u32], t: &[f32]) -> u32
+    ensures { λ r. ⌜ ((i < 256 → getD (now (places .entry)) i 0
+        ≡ binOf g (boxAt (tableBoxes (now (t .entry))) (getD (now (os .entry)) i 0)))
+        → r ≡ binOf g (boxAt (tableBoxes (now (t .entry))) (getD (now (os .entry)) i 0))) ⌝ }
 {
-    bin_of(g, box_at(t, o as usize)) < split as usize
+    if i < PLACES {
+        return places[i];
+    }
+    bin_of(g, box_in(member(os, t, i)))
+}
+
+fn at_most_all(split: u32) -> u32
+    ensures { λ r. ⌜ (r ≤ 12) × ((k : ℕ) → k ≤ 11 → ltb k r ≡ ltb k split) ⌝ }
+{
+    if split < 12 {
+        return split;
+    }
+    12
+}
+
+// 1 where bin k lies below the split, else 0, with no way that depends on it: which one it is cannot be foreseen.
+fn one_below(k: u32, split: u32) -> u32
+    ensures { λ r. ⌜ (r ≤ 1) × (k ≤ 11 → r ≡ cond (ltb k split) 1 0) ⌝ }
+{
+    (at_most_all(split) + 15 - k % 16) / 16
+}
+
+// i, or j for a 1, where j is not past i.
+fn either_place(i: usize, j: usize, one: u32) -> usize
+    ensures { λ r. ⌜ (r ≤ i) × (one ≡ 0 → r ≡ i) × (j ≤ i → one ≡ 1 → r ≡ j) ⌝ }
+{
+    if j <= i {
+        return i - (i - j) * ((one % 2) as usize);
+    }
+    i
 }
 
 // Exchanges two objects; nothing where a place is past the end.
@@ -378,17 +605,18 @@ fn swap(os: &mut [u32], i: usize, j: usize)
 }
 
 // Moves the objects of the bins below the split to the front, and answers how many there are.
-fn partition(os: &mut [u32], t: &[f32], g: Grid, split: u32) -> usize
-    ensures { λ r. ⌜ (r ≡ parted (tableBoxes (now (t .entry))) g split (now (os .entry)) .mid)
-        × (now (os .exit) ≡ parted (tableBoxes (now (t .entry))) g split (now (os .entry)) .order) ⌝ }
+fn partition(os: &mut [u32], t: &[f32], g: Grid, split: u32, places: &[u32; 256]) -> usize
+    ensures { λ r. ⌜ (Noted (tableBoxes (now (t .entry))) g (now (os .entry)) (now (places .entry))
+        (length (now (os .entry)))
+        → (r ≡ parted (tableBoxes (now (t .entry))) g split (now (os .entry)) .mid)
+        × (now (os .exit) ≡ parted (tableBoxes (now (t .entry))) g split (now (os .entry)) .order)) ⌝ }
 {
     let mut i: usize = 0;
     let mut mid: usize = 0;
     while i < os.len() {
-        if goes_left(t, g, split, object_at(os, i)) {
-            swap(os, i, mid);
-            mid += 1;
-        }
+        let one = one_below(place_at(places, i, g, os, t), split);
+        swap(os, i, either_place(i, mid, one));
+        mid += one as usize;
         i += 1;
     }
     mid
@@ -414,7 +642,8 @@ pub fn cut(os: &mut [u32], t: &[f32], c: Aabb) -> usize
 {
     let n = os.len();
     let g = grid_of(c);
-    let s = best_split(os, t, g);
-    let m = partition(os, t, g, s);
+    let mut places = [0u32; PLACES];
+    let s = best_split(os, t, g, &mut places);
+    let m = partition(os, t, g, s, &places);
     evened(m, n)
 }

@@ -7,9 +7,8 @@ use Rattle.bvh_build.proofs.build_with.Tie as tie
 
 returns : tie.Need-returns
 returns c =
-    lays-plan _ _ _ _ _ _ _ _ _
-    (c .before .before .before .before .before .before .before .before .before .before .before .load-boxes .ensures)
-    (c .before .before .before .before .before .before .before .before .before .number .ensures)
+    let n = c .before .before .before .before .before .before .before .before .before .before in
+    lays-plan _ _ _ _ _ _ _ _ _ (n .before .before .load-boxes .ensures) (n .number .ensures)
     (c .before .before .build-recursive .ensures)
 
 pub build-with-spec : {M : Type 1} → statement M

@@ -7,10 +7,12 @@ use Rattle.bvh_split.proofs.best_split.Tie as tie
 
 returns : tie.Need-returns
 returns c =
-    best-of _ _ _ _ _ _ _ _ _ _ refl refl
-    (c .before .before .before .before .before .before .before .before .before .before .before .before .before .before .empty-boxes .ensures)
-    (c .before .before .before .before .before .before .before .before .before .before .fill-bins .ensures)
-    (c .before .before .before .before .before .sweep-left .ensures) (c .sweep-right .ensures)
+    let l = c .before .before .before .before .before in
+    let f = l .before .before .before .before .before in (
+      best-of _ _ _ _ _ _ _ _ _ _ refl refl (f .before .before .before .before .before .empty-boxes .ensures)
+          (f .fill-bins .ensures .0) (l .sweep-left .ensures) (c .sweep-right .ensures),
+      f .fill-bins .ensures .1,
+    )
 
 pub best-split-spec : {M : Type 1} → statement M
 best-split-spec =

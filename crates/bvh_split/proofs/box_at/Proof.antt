@@ -1,20 +1,11 @@
--- `bvh_split::box_at` meets its contract: past the last box lies none. Assumes nothing.
+-- `bvh_split::box_at` meets its contract, by those of its calls. Assumes nothing.
 use borrow.Author.Needs.{needs}
-use Rattle.bvh_split.proofs.Table.{box-here, box-past}
 use Rattle.bvh_split.proofs.box_at.Statement.{statement}
 use Rattle.bvh_split.proofs.box_at.Tie as tie
 
 returns : tie.Need-returns
-returns c = rw (box-here _ _ (c .before .before .before .before .before .before .if1 .taken)) (search needs)
-
-returns-2 : tie.Need-returns-2
-returns-2 c = rw (box-past _ _ (c .before .if1 .left), c .no-box .ensures)
+returns c = rw (c .box-in .ensures, c .before .row-at .ensures)
 
 pub box-at-spec : {M : Type 1} → statement M
-box-at-spec =
-    tie.close
-    (tie.spec
-    (λ c. search needs) (λ c. search needs) (λ c. search needs) (λ c. search needs) (λ c. search needs)
-    (λ c. search needs) (λ c. search needs) (λ c. search needs) (λ c. search needs) (λ c. search needs)
-    (λ c. search needs) (λ c. search needs) (λ c. search needs) (λ c. search needs) (λ c. search needs)
-    (λ c. search needs) (λ c. search needs) (λ c. search needs) returns (λ c κs. search needs) returns-2)
+box-at-spec = tie.close (tie.spec
+    (λ c κs. search needs) (λ c κs. search needs) returns)

@@ -8,10 +8,11 @@ returns : tie.Need-returns
 unfolding splitOf cutOf
 returns c =
     let p = c .before .before .before in
-    let s = p .before .before in
-    let g = s .before .before in (
-      rw (c .evened .ensures, p .partition .ensures .0, s .best-split .ensures, g .grid-of .ensures),
-      rw (p .partition .ensures .1, s .best-split .ensures, g .grid-of .ensures),
+    let b = p .before .before .before in
+    let g = b .before .before .before in
+    let q = p .partition .ensures (b .best-split .ensures .1) in (
+      rw (c .evened .ensures, q .0, b .best-split .ensures .0, g .grid-of .ensures),
+      rw (q .1, b .best-split .ensures .0, g .grid-of .ensures),
     )
 
 pub cut-spec : {M : Type 1} → statement M

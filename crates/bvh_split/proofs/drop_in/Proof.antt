@@ -1,11 +1,15 @@
--- `bvh_split::drop_in` meets its contract, by those of its calls. Assumes nothing.
+-- `bvh_split::drop_in` meets its contract: a row put is a box put. Assumes nothing.
 use borrow.Author.Needs.{needs}
+use mathlib.Core.Path.{ap, _∙_}
+use Rattle.bvh_split.specs.Inside.Table.{tableBoxes}
+use Rattle.bvh_split.proofs.Table.{rows-put}
 use Rattle.bvh_split.proofs.drop_in.Statement.{statement}
 use Rattle.bvh_split.proofs.drop_in.Tie as tie
 
 returns : tie.Need-returns
 returns c = (
-  rw (c .put-box .ensures, c .before .before .merge .ensures, c .before .before .before .box-at .ensures),
+  ap tableBoxes (c .put-row .ensures) ∙ rows-put _ _ _ ∙
+      (rw (c .before .before .join .ensures, c .before .before .before .row-at .ensures)),
   c .before .before .before .before .before .before .count-in .ensures,
 )
 

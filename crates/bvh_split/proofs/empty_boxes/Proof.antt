@@ -12,27 +12,27 @@ use Rattle.bvh_split.proofs.empty_boxes.Tie as tie
 
 abbrev Inv-loop : tie.InvT-loop
 Inv-loop t₀ k₀ t k =
-    (k ≤ length t₀ / 6) × (length t ≡ length t₀) × (take k (tableBoxes t) ≡ replicate k nowhere)
+    (k ≤ length t₀ / 8) × (length t ≡ length t₀) × (take k (tableBoxes t) ≡ replicate k nowhere)
 
 abbrev μ-loop : tie.MeasureT-loop
-μ-loop t₀ k₀ t k = length t₀ / 6 - k
+μ-loop t₀ k₀ t k = length t₀ / 8 - k
 
 loop-holds : tie.Need-loop-holds Inv-loop μ-loop
 loop-holds c = (search needs, refl, refl)
 
 loop-again : tie.Need-loop-again Inv-loop μ-loop
 loop-again c = let L = c .before .before .before .before .before .before .loop in
-    let p = c .before .before .put-box .ensures in
+    let p = c .before .before .put-row .ensures in
     let h = c .before .before .before .before .before .loop-test .taken in (
       omega arith,
       length-turn (L .t) _ (L .k) _ p ∙ L .inv .1,
-      empty-turn (L .t) _ (L .k) _ p (c .before .before .before .nowhere .ensures) h (L .inv .2),
+      empty-turn (L .t) _ (L .k) _ p (c .before .before .before .no-row .ensures) h (L .inv .2),
     )
 
 returns : tie.Need-returns Inv-loop μ-loop
 returns c = let L = c .before .loop in
     let t = c .before .before .before .args .t .now in
-    empty-all (L .t) (L .k) (length t / 6) (ap (λ (n : ℕ). n / 6) (L .inv .1)) (omega arith) (omega arith)
+    empty-all (L .t) (L .k) (length t / 8) (ap (λ (n : ℕ). n / 8) (L .inv .1)) (omega arith) (omega arith)
     (L .inv .2)
 
 pub empty-boxes-spec : {M : Type 1} → statement M

@@ -4,7 +4,7 @@ use Rattle.bvh_split.proofs.member.Statement.{statement}
 use Rattle.bvh_split.proofs.member.Tie as tie
 
 returns : tie.Need-returns
-returns c = rw (c .box-at .ensures, c .before .object-at .ensures)
+returns c = rw (c .row-at .ensures, c .before .object-at .ensures)
 
 pub member-spec : {M : Type 1} → statement M
 member-spec = tie.close (tie.spec

@@ -1,13 +1,15 @@
 -- `bvh_split::sweep_left` meets its contract: both lists are filled up to the bin that is next. Assumes nothing.
 use borrow.Author.Needs.{needs}
 use Prim.Native.Nat.{_≤_, _-_}
-use mathlib.Core.Path.{_≡_}
+use mathlib.Core.Path.{_≡_, sym, subst}
 use native.Mathlib.Omega.{arith}
 use lib.ListN.{length, take}
 use Rattle.words.specs.Lists.{listFrom}
 use Rattle.words.proofs.Runs.{fill-more, fill-all}
 use Rattle.bvh_split.specs.Bins.{leftBox, leftCount}
 use Rattle.bvh_split.specs.Inside.Sums.{binned, leftArea, leftThrough}
+use Rattle.bvh_split.specs.Inside.Numbers.{Numbers}
+use Rattle.bvh_split.proofs.Numbers.{left-numbers}
 use Rattle.bvh_split.proofs.Turns.{box-turn, count-turn, area-turn, through-turn}
 use Rattle.bvh_split.proofs.sweep_left.Statement.{statement}
 use Rattle.bvh_split.proofs.sweep_left.Tie as tie
@@ -26,10 +28,13 @@ unfolding leftBox leftCount listFrom
 loop-holds c = search needs
 
 loop-again : tie.Need-loop-again Inv-loop μ-loop
-loop-again c = let L = c .before .before .before .before .before .before .before .loop in
-    let a = c .before .before .before .before .before .before .before .before .before .before .before .before .before .args in
+loop-again c =
+    let l = c .before .before .before .before .before .before .before in
+    let L = l .loop in
+    let a = l .before .before .before .before .before .before .args in
     let σ = binned (a .b .now) (a .n .now) in
-    let h = box-turn σ (L .i) _ _ _ (c .before .before .before .merge .ensures)
+    let w = c .before .before .before .wider .ensures (subst Numbers (sym (L .inv .3)) (left-numbers σ (L .i))) in
+    let h = box-turn σ (L .i) _ _ _ w
     (c .before .before .before .before .box-at .ensures) (L .inv .3) in
     let n = count-turn σ (L .i) _ _ (c .before .plus .ensures) (L .inv .4) in (
       omega arith,
@@ -42,7 +47,10 @@ loop-again c = let L = c .before .before .before .before .before .before .before
     )
 
 returns : tie.Need-returns Inv-loop μ-loop
-returns c = let L = c .before .loop .inv in (fill-all _ _ _ 12 (L .1) (omega arith) (omega arith) (L .5), fill-all _ _ _ 12 (L .2) (omega arith) (omega arith) (L .6))
+returns c = let L = c .before .loop .inv in (
+  fill-all _ _ _ 12 (L .1) (omega arith) (omega arith) (L .5),
+  fill-all _ _ _ 12 (L .2) (omega arith) (omega arith) (L .6),
+)
 
 pub sweep-left-spec : {M : Type 1} → statement M
 sweep-left-spec =

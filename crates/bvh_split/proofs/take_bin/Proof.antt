@@ -6,7 +6,7 @@ use Rattle.bvh_split.proofs.take_bin.Tie as tie
 
 returns : tie.Need-returns
 unfolding takeBin
-returns c = rw (c .plus .ensures, c .before .merge .ensures)
+returns c = λ h. rw (c .plus .ensures, c .before .wider .ensures h)
 
 pub take-bin-spec : {M : Type 1} → statement M
 take-bin-spec = tie.close (tie.spec

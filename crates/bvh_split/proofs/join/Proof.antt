@@ -1,0 +1,13 @@
+-- `bvh_split::join` meets its contract, by those of its calls. Assumes nothing.
+use borrow.Author.Needs.{needs}
+use Rattle.bvh_boxes.specs.Boxes.{merge}
+use Rattle.bvh_split.proofs.join.Statement.{statement}
+use Rattle.bvh_split.proofs.join.Tie as tie
+
+returns : tie.Need-returns
+unfolding merge
+returns c = rw (c .upper .ensures, c .before .lower .ensures)
+
+pub join-spec : {M : Type 1} → statement M
+join-spec = tie.close (tie.spec
+    (λ c κs. search needs) (λ c κs. search needs) returns)
