@@ -1,4 +1,5 @@
 pub mod Lists
+pub mod Prims
 pub mod Numbers
 pub mod Exact
 pub mod Apart

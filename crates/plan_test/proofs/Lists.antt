@@ -1,26 +1,30 @@
 -- What the loops over pieces need at a turn, by induction on the list, and a plan's number of the words that the code
 -- reads. Assumes nothing.
-use Prim.Native.Nat.{ℕ, _+_, _*_, _≤_, _<_}
+use Prim.Native.Nat.{ℕ, zero, suc, _+_, _*_, _≤_, _<_}
 use native.Mathlib.Nat.{add-zero, zero-add, add-assoc}
 use native.Mathlib.Numerals.{add-one}
 use native.Mathlib.Omega.{arith}
-use mathlib.Core.Path.{_≡_, refl, sym, _∙_}
-use mathlib.Core.Bool.{Bool, true, false, cond, _&&_, and-true, and-assoc}
+use mathlib.Core.Path.{_≡_, refl, sym, _∙_, ap}
+use mathlib.Core.Bool.{Bool, true, false, cond, _&&_, and-true, and-assoc, and-eq-true-iff}
 use mathlib.Core.List.{List, [], _∷_, _++_}
-use lib.Dec.{leb}
+use lib.Dec.{leb, eqb}
 use lib.Ieee.{Float}
+use borrow.Author.Tests.{eqb-true, leb-true, le-leb}
 use mir.Syntax.{w64}
 use mir.Val.{Fits}
 use Rattle.words.specs.Lists.{listFrom}
 use Rattle.words.proofs.Runs.{from-snoc, length-from}
 use Rattle.refusals.specs.Refusals.{noRoom, lower, lowestOf}
-use Rattle.refusals.proofs.Lowest.{lowest-start, lowest-more}
-use Rattle.plan.specs.Sections.{materials, planes, lights, objects}
-use Rattle.plan.specs.Records.{materialAt, lightIn, headAt}
-use Rattle.plan.specs.Plan.{Piece, pieceAt, piecesFrom, countOf, planOf, seen, planIn}
+use Rattle.refusals.proofs.Lowest.{lower-assoc, lowest-start, lowest-more}
+use Rattle.plan.specs.declared.Head.{Head}
+use Rattle.plan.specs.Sections.{materials, planes, lights, objects, cutsMost}
+use Rattle.plan.specs.Records.{materialAt, lightIn, cutterAt, headAt}
+use Rattle.plan.specs.Plan.{Piece, cutsBy, pieceAt, piecesFrom, countOf, planOf, seen, planIn}
 use Rattle.plan_test.specs.declared.Tally.{Tally}
 use Rattle.plan_test.specs.declared.Solids.{Solids}
-use Rattle.plan_test.specs.Numbers.{lightNumber, ownNumber, pieceOwn, pieceCuts}
+use Rattle.plan_test.specs.Numbers.{lightNumber, cutterNumber, cutsNumber, ownNumber, pieceOwn}
+use Rattle.plan_test.specs.Numbers.{pieceCuts}
+use Rattle.plan_test.specs.Inside.Prims.{cutsFlat}
 use Rattle.plan_test.specs.Tests.{countsOk, cuttersOf, placeOk, placesOk, tallyOf, objectsNumber, solidsOf}
 use Rattle.plan_test.specs.Tests.{litNumber}
 
@@ -102,6 +106,50 @@ pub sum-fits
     : (used n j : ℕ) → used ≤ 4294967295 * j → j < 4294967295 → n ≤ 4294967295 → Fits w64 (used + n)
 sum-fits used n j h l k = record { fits = omega arith }
 
+-- ---- objects' cutters stand one after the other
+module _ {A : Type 0} (number : A → ℕ) (g : ℕ → A) where
+  lowest-split
+      : (a c m : ℕ)
+      → lowestOf number (listFrom g a (c + m))
+      ≡ lower (lowestOf number (listFrom g a c)) (lowestOf number (listFrom g (a + c) m))
+  unfolding lowestOf listFrom lower
+  lowest-split a zero m = rw (add-zero, zero-add)
+  lowest-split a (suc c) m =
+      let e : suc c + m ≡ suc (c + m) = omega arith in
+      let i : a + suc c ≡ suc a + c = omega arith in
+      rw (e, i, lowest-split (suc a) c m)
+      (lower-assoc (number (g a)) (lowestOf number (listFrom g (suc a) c)) (lowestOf number (listFrom g (suc a + c) m)))
+
+place-before : (before : ℕ) (h : Head) → placeOk false before h ≡ true → h .place ≡ before
+unfolding placeOk
+place-before before h e =
+    eqb-true (h .place) before (and-eq-true-iff (leb (h .cutters) cutsMost) (eqb (h .place) before) .0 e .1)
+
+flat-from
+    : (w : List ℕ) (f : List Float) (n r before : ℕ) → placesOk false before (listFrom (pieceAt w f) r n) ≡ true
+    → lowestOf pieceCuts (listFrom (pieceAt w f) r n)
+    ≡ lowestOf cutterNumber (listFrom (cutterAt w f) (369 + before) (cuttersOf (listFrom (pieceAt w f) r n)))
+unfolding listFrom placesOk cuttersOf lowestOf pieceCuts cutsNumber cutsBy pieceAt
+flat-from w f zero r before h = refl
+flat-from w f (suc n) r before h =
+    let o : Head = headAt w f r in
+    let rest : List Piece = listFrom (pieceAt w f) (suc r) n in
+    let p = and-eq-true-iff (placeOk false before o) (placesOk false (before + o .cutters) rest) .0 h in
+    let here : headAt w f r .place ≡ before = place-before before o (p .0) in
+    let e : 369 + (before + o .cutters) ≡ 369 + before + o .cutters = omega arith in
+    let more = flat-from w f n (suc r) (before + o .cutters) (p .1) in
+    rw (lowest-split cutterNumber (cutterAt w f) (369 + before) (o .cutters) (cuttersOf rest), here, more, e)
+
+-- all objects' cutters as one list
+flat-objects
+    : (w : List ℕ) (f : List Float) (r n used : ℕ) (placed : Bool) → used ≡ cuttersOf (piecesFrom w f r n)
+    → (placed ≡ true → (placesOk false 0 (piecesFrom w f r n) ≡ true) × (leb used 1024 ≡ true))
+    → cutsFlat w f placed used ≡ cond placed (lowestOf pieceCuts (piecesFrom w f r n)) noRoom
+unfolding piecesFrom cutsNumber cutsBy
+flat-objects w f r n used true e h =
+    rw (h refl .1, e) (sym (flat-from w f n r 0 (h refl .0)))
+flat-objects w f r n used false e h = refl
+
 -- ---- a plan's number, of the words that the code reads
 -- cutters that are judged in one place are judged in both
 lower-cond : (b : Bool) (m n : ℕ) → cond b (lower m n) noRoom ≡ lower (cond b m noRoom) (cond b n noRoom)
@@ -134,6 +182,41 @@ module _ (w : List ℕ) (f : List Float) where
       noRoom
   unfolding objectsNumber planOf
   objects-words = rw (counts-any w f (seen w), length-from (materialAt f) (materials .first) (countOf materials w))
+
+  -- the same, as the code has it
+  pub objects-flat
+      : objectsNumber (planOf w f)
+      ≡ cond (countsOk (planIn w))
+      (lower (tallied false objectsIn .number)
+      (cutsFlat w f (tallied false objectsIn .placed && leb (tallied false objectsIn .used) 1024)
+      (tallied false objectsIn .used)))
+      noRoom
+  unfolding tallyOf
+  objects-flat =
+      rw (flat-objects w f (objects .first) (countOf objects w) (cuttersOf objectsIn)
+      (placesOk false 0 objectsIn && leb (cuttersOf objectsIn) 1024) refl
+      (λ e. and-eq-true-iff (placesOk false 0 objectsIn) (leb (cuttersOf objectsIn) 1024) .0 e))
+      objects-words
+
+  -- among planes and objects
+  pub solids-flat
+      : {p o : Tally} {fit some placed : Bool} {b : ℕ}
+      → p ≡ tallied true planesIn
+      → o ≡ tallied false objectsIn
+      → fit ≡ leb (p .used + o .used) 1024
+      → some ≡ (o .placed && fit)
+      → placed ≡ (p .placed && some)
+      → b ≡ cutsFlat w f placed (o .used)
+      → b ≡ cond placed (lowestOf pieceCuts objectsIn) noRoom
+  unfolding tallyOf
+  solids-flat {p} {o} {fit} {some} {placed} {b} ep eo ef es el eb =
+      let good : placed ≡ true → (placesOk false 0 objectsIn ≡ true) × (leb (o .used) 1024 ≡ true) =
+      λ t.
+      let q = and-eq-true-iff (o .placed) fit .0
+      (sym es ∙ and-eq-true-iff (p .placed) some .0 (sym el ∙ t) .1) in
+      let le = leb-true (p .used + o .used) 1024 (sym ef ∙ q .1) in
+      (sym (ap (λ (x : Tally). x .placed) eo) ∙ q .0, le-leb (o .used) 1024 (omega arith)) in
+      eb ∙ flat-objects w f (objects .first) (countOf objects w) (o .used) placed (ap (λ (x : Tally). x .used) eo) good
 
   abbrev solidsIn : Solids
   solidsIn =

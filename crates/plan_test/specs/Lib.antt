@@ -1,3 +1,4 @@
 pub mod Numbers
+pub mod Inside
 pub mod Tests
 pub mod Exact

@@ -74,11 +74,11 @@ pub fn signum(x: f32) -> f32
     x
 }
 
-// The float of a word, every NaN's too.
+// The float of a word, every NaN's too. With the sign shifted out a NaN's is one compare, where a table is converted.
 pub fn float(w: u32) -> f32
     ensures { λ r. ⌜ r ≡ ofBits binary32 w ⌝ }
 {
-    if w % 0x8000_0000 > 0x7f80_0000 {
+    if w << 1 > 0xff00_0000 {
         return 0.0 / 0.0;
     }
     f32::from_bits(w)

@@ -26,12 +26,8 @@ loop-holds c =
 
 loop-again : tie.Need-loop-again Inv-loop μ-loop
 loop-again c =
-    let a = c .before .before in
-    let l = a .before .before in (
-      omega arith,
-      rw (lowest-more, c .lower .ensures, c .before .cutter-number .ensures, a .cutter-at .ensures)
-          (rw (l .loop .inv .1)),
-    )
+    let l = c .before .before .before in
+    (omega arith, rw (lowest-more, c .lower .ensures, c .before .cut-at .ensures, l .loop .inv .1))
 
 returns : tie.Need-returns Inv-loop μ-loop
 unfolding cutsNumber cutsBy
@@ -44,5 +40,4 @@ cuts-number-spec =
     tie.close
     (tie.spec
     Inv-loop μ-loop loop-holds (λ c. search needs) (λ c. search needs) (λ c. search needs)
-    (λ c κs. search needs) (λ c κs. search needs) (λ c κs. search needs) (λ c. search needs)
-    (λ c. search needs) loop-again returns)
+    (λ c κs. search needs) (λ c κs. search needs) (λ c. search needs) (λ c. search needs) loop-again returns)

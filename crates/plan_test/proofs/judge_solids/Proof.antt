@@ -1,5 +1,5 @@
 -- `plan_test::judge_solids` meets its contract. Assumes nothing.
-use Rattle.plan_test.proofs.Lists.{solids-made}
+use Rattle.plan_test.proofs.Lists.{solids-made, solids-flat}
 use mathlib.Core.Path.{sym}
 use Rattle.plan_test.proofs.Lists.{solids-words}
 use borrow.Author.Needs.{needs}
@@ -8,7 +8,7 @@ use Rattle.plan_test.proofs.judge_solids.Tie as tie
 
 returns : tie.Need-returns
 returns c =
-    let b = c .before .before .before .before .before .before .before in
+    let b = c .before .before .before .before .before .before in
     let t = b .before .before .before in
     let i = t .before .before .before .before in
     rw (solids-words, sym (i .before .counts-ok .ensures), i .if1 .taken)
@@ -18,8 +18,10 @@ returns c =
     (b .before .before .fits2 .ensures)
     (b .before .both .ensures)
     (b .both2 .ensures)
-    (c .before .before .before .before .before .placed-cuts .ensures)
-    (c .before .before .before .placed-cuts2 .ensures)
+    (c .before .before .before .before .placed-cuts .ensures)
+    (solids-flat _ _ (t .before .before .tally-rows .ensures) (t .tally-rows2 .ensures)
+    (b .before .before .fits2 .ensures) (b .before .both .ensures) (b .both2 .ensures)
+    (c .before .before .before .object-cuts .ensures))
     (c .before .before .lower .ensures)
     (c .before .lower2 .ensures)
     (c .lower3 .ensures))
@@ -33,5 +35,5 @@ judge-solids-spec =
     (tie.spec
     (λ c κs. search needs) (λ c. search needs) (λ c κs. search needs) (λ c. search needs)
     (λ c κs. search needs) (λ c κs. search needs) (λ c κs. search needs) (λ c κs. search needs)
-    (λ c. search needs) (λ c κs. search needs) (λ c. search needs) (λ c κs. search needs)
-    (λ c κs. search needs) (λ c κs. search needs) (λ c κs. search needs) returns returns-2)
+    (λ c. search needs) (λ c κs. search needs) (λ c κs. search needs) (λ c κs. search needs)
+    (λ c κs. search needs) (λ c κs. search needs) returns returns-2)

@@ -1,6 +1,6 @@
 -- `plan_test::objects_number` meets its contract. Assumes nothing.
 use mathlib.Core.Path.{sym}
-use Rattle.plan_test.proofs.Lists.{objects-words}
+use Rattle.plan_test.proofs.Lists.{objects-flat}
 use borrow.Author.Needs.{needs}
 use Rattle.plan_test.proofs.objects_number.Statement.{statement}
 use Rattle.plan_test.proofs.objects_number.Tie as tie
@@ -8,12 +8,12 @@ use Rattle.plan_test.proofs.objects_number.Tie as tie
 returns : tie.Need-returns
 returns c =
     let i = c .before .before .before .before .before .before in
-    rw (objects-words, sym (i .before .counts-ok .ensures), i .if1 .taken)
-    (rw (c .lower .ensures, c .before .placed-cuts .ensures, c .before .before .both .ensures)
+    rw (objects-flat, sym (i .before .counts-ok .ensures), i .if1 .taken)
+    (rw (c .lower .ensures, c .before .object-cuts .ensures, c .before .before .both .ensures)
     (rw (c .before .before .before .before .tally-rows .ensures)))
 
 returns-2 : tie.Need-returns-2
-returns-2 c = rw (objects-words, sym (c .before .counts-ok .ensures), c .if1 .left)
+returns-2 c = rw (objects-flat, sym (c .before .counts-ok .ensures), c .if1 .left)
 
 pub objects-number-spec : {M : Type 1} → statement M
 objects-number-spec =

@@ -6,9 +6,10 @@ use mathlib.Core.Path.{_≡_, sym}
 use native.Mathlib.Omega.{arith}
 use Rattle.refusals.specs.Refusals.{lowestOf}
 use Rattle.plan.specs.Sections as sections
+use Rattle.plan.specs.Records.{headAt}
 use Rattle.plan.specs.Plan.{piecesFrom, countOf}
 use Rattle.plan_test.specs.Numbers.{pieceOwn}
-use Rattle.plan_test.specs.Tests.{cuttersOf, placesOk, tallyOf}
+use Rattle.plan_test.specs.Tests.{cuttersOf, placeOk, placesOk, tallyOf}
 use Rattle.plan_test.proofs.Lists.{own-start, own-more, used-start, used-more, placed-start}
 use Rattle.plan_test.proofs.Lists.{placed-more, sum-words, sum-fits}
 use Rattle.plan_test.proofs.tally_rows.Statement.{statement}
@@ -43,26 +44,16 @@ add-used c =
     sum-fits (l .loop .used) _ (l .loop .j) (search needs) (search needs) (search needs)
 
 loop-again : tie.Need-loop-again Inv-loop μ-loop
+unfolding placeOk headAt
 loop-again c =
-    let l = c .before .before .before .before .before .before .before in (
+    let b2 = c .before .before in let b4 = b2 .before .before in let b5 = b4 .before in
+    let l = b5 .before .before in (
       search needs,
       omega arith,
-      rw (
-        own-more,
-        c .before .before .before .lower .ensures,
-        c .before .before .before .before .own-number .ensures,
-        c .before .before .before .before .before .head-at .ensures,
-        l .loop .inv .2,
-      ),
-      rw (
-        placed-more,
-        c .before .both .ensures,
-        c .before .before .place-ok .ensures,
-        c .before .before .before .before .before .head-at .ensures,
-        l .loop .inv .3,
-        l .loop .inv .4,
-      ),
-      rw (used-more, c .before .before .before .before .before .head-at .ensures, l .loop .inv .4),
+      rw (own-more, b2 .lower .ensures, b2 .before .own-at .ensures, l .loop .inv .2),
+      rw (placed-more, c .both .ensures, c .before .place-ok .ensures)
+          (rw (b4 .word-after2 .ensures, b5 .word-after .ensures, l .loop .inv .3, l .loop .inv .4)),
+      rw (used-more, b5 .word-after .ensures, l .loop .inv .4),
       sum-words (l .loop .used) _ (l .loop .j) (search needs) (search needs),
     )
 
@@ -77,7 +68,7 @@ pub tally-rows-spec : {M : Type 1} → statement M
 tally-rows-spec =
     tie.close
     (tie.spec
-    Inv-loop μ-loop (λ c. search needs) loop-holds (λ c. search needs) (λ c. search needs)
-    (λ c κs. search needs) (λ c κs. search needs) (λ c κs. search needs) (λ c κs. search needs)
-    (λ c κs. search needs) (λ c. search needs) add-used (λ c. search needs) (λ c. search needs) loop-again
-    returns)
+    Inv-loop μ-loop (λ c. search needs) loop-holds (λ c. search needs) (λ c. search needs) (λ c. search needs)
+    (λ c κs. search needs) (λ c. search needs) (λ c κs. search needs) (λ c κs. search needs)
+    (λ c κs. search needs) (λ c κs. search needs) (λ c κs. search needs) (λ c. search needs) add-used
+    (λ c. search needs) (λ c. search needs) loop-again returns)
