@@ -2,14 +2,13 @@
 use mathlib.Core.Path.{_≡_, refl, sym, subst}
 use mathlib.Core.Bool.{Bool, true, false, cond}
 use lib.Dec.{T}
-use lib.Ieee.{Float, ofBits, lt, le, eq}
+use lib.Ieee.{Float, ofBits, lt, eq}
 use Rattle.scalar.specs.F32.{f0}
 use Rattle.scalar.specs.Extremes.{fmax}
-use Rattle.float_order.specs.Inside.Order.{number, zeroF}
-use Rattle.float_order.proofs.Order.{yes-of, is-yes, is-not, not-of, decide, number-eq, lt-right, lt-trans, lt-le}
-use Rattle.float_order.proofs.Order.{lt-not-le, lt-irrefl, lt-le-trans, le-of-not-lt}
+use Rattle.float_order.specs.Inside.Order.{number}
+use Rattle.float_order.proofs.Order.{yes-of, is-yes, is-not, not-of, number-eq, lt-right, lt-trans}
+use Rattle.float_order.proofs.Order.{lt-irrefl, lt-le-trans, le-of-not-lt}
 use Rattle.float_order.proofs.Extremes.{fmax-either}
-use Rattle.float_order.proofs.Rounding.{zero-is}
 
 self : eq f0 f0 ≡ true
 unfolding eq ofBits

@@ -1,7 +1,7 @@
 -- Corners that are numbers stay numbers, and for them one test finds the lesser and the greater. By the cases of a
 -- float and of a test. Assumes nothing.
 use Prim.Native.Nat.{ℕ, zero, suc}
-use mathlib.Core.Path.{_≡_, refl, sym, subst, _∙_}
+use mathlib.Core.Path.{_≡_, refl, _∙_}
 use mathlib.Core.Bool.{Bool, true, false, not, cond, _||_}
 use lib.Dec.{T, eqb}
 use lib.Ieee.{Float, nan, inf, fin, lt, eq, le, neg, ofBits}

@@ -31,12 +31,6 @@ lessOf-either P a b x y = go (lt b a)
     go true = y
     go false = x
 
-pub fmax-one : (a b : Float) → (fmax a b ≡ a) ⊎ (fmax a b ≡ b)
-fmax-one a b = fmax-either (λ (r : Float). (r ≡ a) ⊎ (r ≡ b)) a b (inl refl) (inr refl)
-
-pub fmin-one : (a b : Float) → (fmin a b ≡ a) ⊎ (fmin a b ≡ b)
-fmin-one a b = fmin-either (λ (r : Float). (r ≡ a) ⊎ (r ≡ b)) a b (inl refl) (inr refl)
-
 pub lessOf-one : (a b : Float) → (lessOf a b ≡ a) ⊎ (lessOf a b ≡ b)
 lessOf-one a b = lessOf-either (λ (r : Float). (r ≡ a) ⊎ (r ≡ b)) a b (inl refl) (inr refl)
 
@@ -68,9 +62,6 @@ fmax-right a b h = go (lt b a) (eq b b) refl refl
 pub fmax-least : (a b z : Float) → T (le a z) → T (le b z) → T (le (fmax a b) z)
 fmax-least a b z = fmax-either (λ (r : Float). T (le r z)) a b
 
-pub fmax-mono : (a b a' b' : Float) → T (le a a') → T (le b b') → T (le (fmax a b) (fmax a' b'))
-fmax-mono a b a' b' h k = fmax-least a b (fmax a' b') (le-trans a a' (fmax a' b') h (fmax-left a' b' (le-right a a' h))) (le-trans b b' (fmax a' b') k (fmax-right a' b' (le-right b b' k)))
-
 -- ---- the lesser is below both
 pub fmin-left : (a b : Float) → T (number a) → T (le (fmin a b) a)
 unfolding fmin
@@ -93,9 +84,6 @@ fmin-right a b h = go (lt a b) (eq b b) refl refl
 pub fmin-greatest : (z a b : Float) → T (le z a) → T (le z b) → T (le z (fmin a b))
 fmin-greatest z a b = fmin-either (λ (r : Float). T (le z r)) a b
 
-pub fmin-mono : (a b a' b' : Float) → T (le a a') → T (le b b') → T (le (fmin a b) (fmin a' b'))
-fmin-mono a b a' b' h k = fmin-greatest (fmin a b) a' b' (le-trans (fmin a b) a a' (fmin-left a b (le-left a a' h)) h) (le-trans (fmin a b) b b' (fmin-right a b (le-left b b' k)) k)
-
 -- ---- the nearer is below both, where the best so far is a number
 pub lessOf-left : (best d : Float) → T (number best) → T (le (lessOf best d) best)
 lessOf-left best d h = go (lt d best) refl
@@ -111,18 +99,4 @@ lessOf-right best d h k = go (lt d best) refl
     go true e = le-refl d k
     go false e = le-of-not-lt best d h k (not-of e)
 
-pub lessOf-number : (best d : Float) → T (number best) → T (number (lessOf best d))
-lessOf-number best d h = le-left (lessOf best d) best (lessOf-left best d h)
-
 -- ---- one or the other is a number
-pub fmax-number-left : (a b : Float) → T (number a) → T (number (fmax a b))
-fmax-number-left a b h = le-right a (fmax a b) (fmax-left a b h)
-
-pub fmax-number-right : (a b : Float) → T (number b) → T (number (fmax a b))
-fmax-number-right a b h = le-right b (fmax a b) (fmax-right a b h)
-
-pub fmin-number-left : (a b : Float) → T (number a) → T (number (fmin a b))
-fmin-number-left a b h = le-left (fmin a b) a (fmin-left a b h)
-
-pub fmin-number-right : (a b : Float) → T (number b) → T (number (fmin a b))
-fmin-number-right a b h = le-left (fmin a b) b (fmin-right a b h)

@@ -321,9 +321,6 @@ le-of-not-lt x y p q f = elim (le-or-lt x y p q) [ inl h ↦ h | inr l ↦ absur
 pub lt-of-not-le : (x y : Float) → T (number x) → T (number y) → (T (le y x) → ⊥) → T (lt x y)
 lt-of-not-le x y p q f = elim (le-or-lt y x q p) [ inl h ↦ absurd (f h) | inr l ↦ l ]
 
-pub le-is-not-lt : (x y : Float) → T (number x) → T (number y) → le x y ≡ not (lt y x)
-le-is-not-lt x y p q = same-test (le x y) (not (lt y x)) (λ h. not-T (lt y x) (λ l. lt-not-le y x l h)) (λ h. le-of-not-lt x y p q (T-not (lt y x) h))
-
 pub lt-is-not-le : (x y : Float) → T (number x) → T (number y) → lt x y ≡ not (le y x)
 lt-is-not-le x y p q =
     same-test (lt x y) (not (le y x)) (λ h. not-T (le y x) (lt-not-le x y h))
@@ -355,30 +352,6 @@ pub le-antisym : (x y : Float) → T (le x y) → T (le y x) → T (eq x y)
 unfolding le
 le-antisym x y h k = elim (or-split (lt x y) (eq x y) h) [ inl l ↦ absurd (lt-not-le x y l k) | inr e ↦ e ]
 
-level-sym : (s t : Bool) (a b : ℕ) → T (level s a t b) → T (level t b s a)
-level-sym s t a b h =
-    let p = eqb→eq a b (and-l (eqb a b) (Bool·beq s t || eqb a 0) h) in
-    subst (λ (k : ℕ). T (level t k s a)) p (go s t a (subst (λ (k : ℕ). T (level s a t k)) (sym p) h))
-  where
-    go : (s t : Bool) (a : ℕ) → T (level s a t a) → T (level t a s a)
-    go true true a h = h
-    go true false a h = h
-    go false true a h = h
-    go false false a h = h
-
-pub eq-sym : (x y : Float) → T (eq x y) → T (eq y x)
-unfolding eq
-eq-sym nan y h = absurd h
-eq-sym (inf s) nan h = absurd h
-eq-sym (inf true) (inf true) h = tt
-eq-sym (inf true) (inf false) h = absurd h
-eq-sym (inf false) (inf true) h = absurd h
-eq-sym (inf false) (inf false) h = tt
-eq-sym (inf s) (fin t n d) h = absurd h
-eq-sym (fin s m e) nan h = absurd h
-eq-sym (fin s m e) (inf t) h = absurd h
-eq-sym (fin s m e) (fin t n d) h = level-sym s t (m * up e * down d) (n * up d * down e) h
-
 -- ---- what is no number
 pub number-is : (x : Float) → number x ≡ not (isNan x)
 unfolding isNan
@@ -390,10 +363,6 @@ number-is (fin s m e) = refl
 pub number-eq : (x : Float) → eq x x ≡ number x
 number-eq x =
     same-test (eq x x) (number x) (λ h. le-left x x (eq-le x x h)) (λ h. le-antisym x x (le-refl x h) (le-refl x h))
-
-pub number-ne : (x : Float) → ne x x ≡ not (number x)
-unfolding ne
-number-ne x = ap not (number-eq x)
 
 -- ---- `neg` turns the order round
 pub neg-number : (x : Float) → T (number x) → T (number (neg x))

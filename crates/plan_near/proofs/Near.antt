@@ -1,12 +1,11 @@
 -- What a distance worked out as far as it matters tells: whether it lies below the bound, and what it is where it does.
 -- So a piece whose primitive is no nearer than the best hit is passed over, whatever cuts it, since a cutter makes no
 -- distance less; and a cutter that is far enough cuts nothing. By the order of floats. Assumes nothing.
-use mathlib.Core.Path.{_≡_, refl, sym, ap, subst, _∙_}
-use mathlib.Core.Bool.{Bool, true, false, cond}
-use mathlib.Core.Logic.{_⊎_, inl, inr}
+use mathlib.Core.Path.{_≡_, sym, ap, subst, _∙_}
+use mathlib.Core.Bool.{true, false}
+use mathlib.Core.Logic.{inl, inr}
 use mathlib.Core.List.{List, [], _∷_}
 use Prim.Native.Nat.{ℕ, zero, suc, _+_, _-_, _≤_}
-use native.Mathlib.Numerals.{add-one}
 use native.Mathlib.Omega.{arith}
 use lib.Dec.{T}
 use lib.Ieee.{Float, neg, lt, le}

@@ -2,19 +2,18 @@
 -- nothing.
 use mathlib.Core.Path.{_≡_, refl, sym, ap, _∙_, subst}
 use Prim.Native.Nat.{ℕ, zero, suc, _+_, _-_, _*_, _/_, _%_, _^_, _≤_, _<_}
-use native.Mathlib.Nat.{le-trans, le-of-eq, lt-of-lt-of-le, lt-of-le-of-lt, le-of-lt, mul-le-mul, mul-le-mul-right}
-use native.Mathlib.Nat.{le-of-mul-le-mul-right, mul-assoc, mul-comm, mul-right-comm, mul-one, zero-mul, eq-zero-or-pos}
-use native.Mathlib.Nat.{pow-succ', mul-mul-mul-comm, add-sub-of-le}
+use native.Mathlib.Nat.{le-trans, le-of-eq, lt-of-le-of-lt, le-of-lt, mul-le-mul, mul-le-mul-right}
+use native.Mathlib.Nat.{le-of-mul-le-mul-right, mul-assoc, mul-comm, mul-right-comm, mul-one, eq-zero-or-pos}
 use native.Mathlib.Omega.{arith}
-use mathlib.Core.Bool.{Bool, true, false}
-use mathlib.Core.Logic.{_⊎_, inl, inr}
+use mathlib.Core.Bool.{false}
+use mathlib.Core.Logic.{inl, inr}
 use lib.Dec.{T, lit<, lit≤}
-use lib.Pow.{pow-pos, pow-add, pow-mono, shl-lt}
-use lib.Ieee.{Float, nan, inf, fin, binary32, binary64, mul, round, ofBits, toBits, le}
+use lib.Pow.{pow-pos, pow-mono}
+use lib.Ieee.{Float, binary32, binary64, mul, ofBits, toBits, le}
 use lib.Ieee.Exact.{HasValue}
 use Rattle.root.specs.Root.{units, plain, fields, val, mid, rootBits, rootOf}
 use Rattle.root.specs.Inside.Bar.{apartBy}
-use Rattle.root.proofs.Patterns.{gap, gap-pos, val-suc, val-lt, Reached, root-found, reached-iff, val-small}
+use Rattle.root.proofs.Patterns.{gap, val-suc, val-lt, Reached, root-found, reached-iff}
 use Rattle.root.proofs.Laws.{plain-small, plain-units, plain-under, root-units}
 use Rattle.root.proofs.Order.{plain-value, le→fractions}
 use Rattle.root.proofs.BarLaw.{exact, mul-value}

@@ -1,19 +1,19 @@
 -- A root against w by the square of w, worked out in f64, which holds it: where x is at least that the root is at least
 -- w, where x is at most that the root is at
 -- most w. Weaker than `bar-law`, and cheaper: no bits are looked at. Assumes nothing.
-use mathlib.Core.Path.{_≡_, refl, sym, ap, _∙_, subst}
-use Prim.Native.Nat.{ℕ, zero, suc, _+_, _-_, _*_, _^_, _≤_, _<_}
-use native.Mathlib.Nat.{le-trans, le-of-eq, lt-of-lt-of-le, lt-of-le-of-lt, not-le-of-lt, lt-of-not-le}
-use native.Mathlib.Nat.{le-of-suc-le-suc, mul-le-mul, mul-le-mul-right, le-of-mul-le-mul-right, mul-assoc}
+use mathlib.Core.Path.{_≡_, sym, ap, _∙_, subst}
+use Prim.Native.Nat.{ℕ, suc, _+_, _-_, _*_, _^_, _≤_, _<_}
+use native.Mathlib.Nat.{le-trans, le-of-eq, lt-of-lt-of-le, not-le-of-lt, lt-of-not-le}
+use native.Mathlib.Nat.{le-of-suc-le-suc, mul-le-mul, le-of-mul-le-mul-right, mul-assoc}
 use native.Mathlib.Nat.{mul-mul-mul-comm}
 use native.Mathlib.Omega.{arith}
 use mathlib.Core.Bool.{false}
-use lib.Dec.{T, lit<, lit≤}
+use lib.Dec.{T, lit≤}
 use lib.Pow.{pow-pos, pow-add}
 use lib.Ieee.{Float, binary32, binary64, mul, toBits, le}
 use lib.Ieee.Exact.{HasValue}
 use Rattle.root.specs.Root.{units, plain, val, mid, rootBits, rootOf}
-use Rattle.root.proofs.Patterns.{gap, gap-pos, val-suc, val-mono, Reached, reached-iff}
+use Rattle.root.proofs.Patterns.{gap, gap-pos, val-suc, val-mono, reached-iff}
 use Rattle.root.proofs.Laws.{plain-small, plain-units, plain-under, root-plain, root-units}
 use Rattle.root.proofs.Order.{plain-value, units→le, le→fractions, root-reaches}
 use Rattle.root.proofs.BarLaw.{exact, mul-value}

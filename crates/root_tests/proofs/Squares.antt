@@ -1,6 +1,6 @@
 -- Tests of roots with no root taken: of a root against a bound by the bound's limit, of two roots by how far apart
 -- their squares are, of a root against a guess by the guess' square. By the laws of the root. Assumes nothing.
-use mathlib.Core.Path.{_≡_, refl, sym, subst, _∙_}
+use mathlib.Core.Path.{_≡_, refl, sym, subst}
 use mathlib.Core.Bool.{Bool, true, false, not, cond}
 use mathlib.Core.Logic.{_⊎_, inl, inr, ⊎-elim}
 use Prim.Native.Nat.{ℕ, zero, suc, _*_, _≤_, _<_}
@@ -25,7 +25,7 @@ use Rattle.scalar.specs.F32.{f0}
 use Rattle.float_order.specs.Inside.Order.{number, zeroF, clear}
 use Rattle.float_order.proofs.Order.{yes-of, is-yes, is-not, not-of, same-test, at-most→le, bottom-le, le-left}
 use Rattle.float_order.proofs.Order.{le-right, le-trans, lt-not-le, lt-of-not-le, lt-le, lt-le-trans, le-lt-trans}
-use Rattle.float_order.proofs.Order.{lt-right, le-top, top-le, le-refl}
+use Rattle.float_order.proofs.Order.{lt-right, le-top, top-le}
 use Rattle.float_order.proofs.Bounds.{finite-between}
 use Rattle.float_order.proofs.Rounding.{zero-is, no-debit}
 use Rattle.float_order.proofs.Roots.{plain-of, plain-number, root-top, root-mono}

@@ -7,7 +7,7 @@ use native.Mathlib.Nat.{mul-pos, zero-lt-suc, zero-mul}
 use native.Mathlib.Omega.{arith}
 use borrow.Author.Tests.{ltb-false}
 use lib.Dec.{T, ltb, lit<}
-use lib.IntN.{ℤ, pos}
+use lib.IntN.{ℤ}
 use lib.Ieee.{Float, nan, inf, fin, binary32, up, down, round, ofBits, fits, neg, sum, add, sub, lt}
 use lib.Ieee.Fits.{up-pos}
 use Rattle.root.proofs.Laws.{zero-exponent}

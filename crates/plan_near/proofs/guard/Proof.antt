@@ -1,5 +1,4 @@
 -- `plan_near::guard` meets its contract: the bound is tested, and no number is none. Assumes nothing.
-use lib.Dec.{T}
 use lib.Ieee.{ofBits, div}
 use Rattle.float_order.proofs.Order.{yes-of}
 use borrow.Author.Needs.{needs}

@@ -1,5 +1,4 @@
 -- `plan_near::plane_nearer` meets its contract: a plane's row by its formula, any other by `nearer`. Assumes nothing.
-use mathlib.Core.Path.{_∙_, sym}
 use Rattle.plan_near.proofs.Rows.{plane-taken, plane-left}
 use borrow.Author.Needs.{needs}
 use Rattle.plan_near.proofs.plane_nearer.Statement.{statement}

@@ -1,5 +1,5 @@
 -- `root_tests::far_off` meets its contract: by `far-by-limit`. Assumes nothing.
-use mathlib.Core.Path.{sym, _∙_, subst}
+use mathlib.Core.Path.{sym, subst}
 use lib.Dec.{T}
 use lib.Ieee.{binary32, fits}
 use Rattle.root_tests.proofs.Squares.{far-by-limit}
