@@ -24,11 +24,6 @@ fn guess(v: f32) -> f32
     1e-30
 }
 
-// What is to be squared beside k so that the root of both is w, or a little more: by the tangent where k is 0.
-fn rest(w: f32, k: f32) -> f32 {
-    if k > 0.0 { w - 0.5 * k / w } else { w }
-}
-
 // Whether t is at most w / s, for an s that is finite and above zero. A `false` tells nothing.
 fn far(t: f32, w: f32, s: f32) -> bool
     ensures { λ x. ⌜ (x ≡ true → T (finite s) × T (lt f0 s) × T (le t (w ⊘ s))) ⌝ }
@@ -80,7 +75,7 @@ fn cylinder_at(q: f32, y: f32, baba: f32, rb: f32, t: f32) -> f32
     let y2 = y * y * baba;
     let by = beyond(y, y2);
     let w = guess(t * baba * 1.000001);
-    let z = over(q, rb, rest(w, by));
+    let z = over(q, rb, w);
     if root_tests::reaches(z * z + by, w) {
         if far(t, w, baba) {
             return t;
@@ -258,7 +253,7 @@ fn cone_at(g: f32, paba: f32, baba: f32, ra: f32, rb: f32, t: f32) -> f32
     let cay = sdf_near::size(paba - 0.5) - 0.5;
     let e = ends(paba, cay);
     let along = e * e * baba;
-    let z = sides(g, ra, rb, rba, rest(w, along));
+    let z = sides(g, ra, rb, rba, w);
     if root_tests::reaches(z * z + along, w) {
         if sure(t, w, baba, cay) {
             return t;

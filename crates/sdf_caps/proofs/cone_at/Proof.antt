@@ -11,7 +11,7 @@ returns c =
     let u = c .before in
     let i = u .before in
     let z = i .before .before in
-    let e = z .before .before in
+    let e = z .before in
     let a = e .before in
     rw (sym (a .size .ensures)) (inr (
       refl,
@@ -21,7 +21,7 @@ returns c =
 
 returns-2 : tie.Need-returns-2
 returns-2 c =
-    let a = c .before .before .before .before .before .before .before in
+    let a = c .before .before .before .before .before .before in
     rw (sym (a .size .ensures), sym (c .before .root .ensures)) (c .cone-from .ensures (a .before .guess .ensures))
 
 pub cone-at-spec : {M : Type 1} → statement M
@@ -29,5 +29,5 @@ cone-at-spec =
     tie.close
     (tie.spec
     (λ c κs. search needs) (λ c κs. search needs) (λ c κs. search needs) (λ c κs. search needs)
-    (λ c κs. search needs) (λ c κs. search needs) (λ c κs. search needs) returns (λ c κs. search needs)
+    (λ c κs. search needs) (λ c κs. search needs) returns (λ c κs. search needs)
     (λ c κs. search needs) returns-2)

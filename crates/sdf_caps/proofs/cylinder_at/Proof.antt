@@ -12,7 +12,7 @@ returns : tie.Need-returns
 returns c =
     let i = c .before .before in
     let o = i .before .before in
-    let g = o .before .before in
+    let g = o .before in
     inr (
       refl,
       by-bound _ _ _ _ _ _ _ _ (g .before .beyond .ensures) (o .over .ensures) (g .guess .ensures)
@@ -24,7 +24,7 @@ returns-2 c =
     let i = c .before .before in
     let s = i .before .before .before in
     let r = s .before in
-    let g = r .before .before .before .before .before in
+    let g = r .before .before .before .before in
     let is = square-is _ _ _ _ _ _ _ (s .square .ensures) (r .root .ensures) (g .before .beyond .ensures) in
     inr (
       refl,
@@ -37,7 +37,7 @@ returns-3 c =
     let p = c .before .before .before in
     let s = p .before in
     let r = s .before in
-    let b = r .before .before .before .before .before .before in
+    let b = r .before .before .before .before .before in
     let is = square-is _ _ _ _ _ _ _ (s .square .ensures) (r .root .ensures) (b .beyond .ensures) in
     inl (by-root _ _ _ _ _ _ is (p .if3 .taken) (c .root2 .ensures))
 
@@ -46,7 +46,7 @@ returns-4 c =
     let a = c .before in
     let s = a .before .before .before in
     let r = s .before in
-    let b = r .before .before .before .before .before .before in
+    let b = r .before .before .before .before .before in
     let is = square-is _ _ _ _ _ _ _ (s .square .ensures) (r .root .ensures) (b .beyond .ensures) in
     inl (rw (c .root3 .ensures, a .size .ensures, a .before .signum .ensures)
     (ap (λ (d : Float). rooted d (b .before .args .baba)) is))
@@ -56,6 +56,6 @@ cylinder-at-spec =
     tie.close
     (tie.spec
     (λ c κs. search needs) (λ c κs. search needs) (λ c κs. search needs) (λ c κs. search needs)
-    (λ c κs. search needs) (λ c κs. search needs) returns (λ c κs. search needs) (λ c κs. search needs)
+    (λ c κs. search needs) returns (λ c κs. search needs) (λ c κs. search needs)
     (λ c κs. search needs) (λ c κs. search needs) returns-2 (λ c κs. search needs) returns-3
     (λ c κs. search needs) (λ c κs. search needs) (λ c κs. search needs) returns-4)
