@@ -1,8 +1,8 @@
 -- What a distance worked out as far as it matters tells: whether it lies below the bound, and what it is where it does.
 -- So a piece whose primitive is no nearer than the best hit is passed over, whatever cuts it, since a cutter makes no
 -- distance less; and a cutter that is far enough cuts nothing. By the order of floats. Assumes nothing.
-use mathlib.Core.Path.{_≡_, sym, ap, subst, _∙_}
-use mathlib.Core.Bool.{true, false}
+use mathlib.Core.Path.{_≡_, refl, sym, ap, subst, _∙_}
+use mathlib.Core.Bool.{Bool, true, false, cond}
 use mathlib.Core.Logic.{inl, inr}
 use mathlib.Core.List.{List, [], _∷_}
 use Prim.Native.Nat.{ℕ, zero, suc, _+_, _-_, _≤_}
@@ -95,6 +95,9 @@ module _ (w : List ℕ) (f : List Float) (r : ℕ) (p : Vec3) (t d : Float) wher
       whole j n h = omega arith
 
 -- ---- pieces
+abbrev hitAt : ℕ → Float → DistHit
+hitAt m z = record { d = z; mat = m }
+
 pub no-closer : (best hit : DistHit) → lt (hit .d) (best .d) ≡ false → closer best hit ≡ best
 unfolding closer
 no-closer best hit e = rw e
@@ -103,10 +106,23 @@ pub is-closer : (best hit : DistHit) → lt (hit .d) (best .d) ≡ true → clos
 unfolding closer
 is-closer best hit e = rw e
 
-pub passed : (o : Piece) (p : Vec3) (best : DistHit) → T (le (best .d) (distOf (o .head .shape) p))
-    → closer best (hitOf o p) ≡ best
-unfolding hitOf pieceDist
-passed o p best h =
-    let l = carve-least (o .cuts) p (best .d) (distOf (o .head .shape) p) h in
-    no-closer best (record { d = carve (o .cuts) p (distOf (o .head .shape) p); mat = o .head .material })
-    (is-not (λ k. lt-not-le (carve (o .cuts) p (distOf (o .head .shape) p)) (best .d) k l))
+pub passed : (o : Piece) (p : Vec3) (t : Float) → T (le t (distOf (o .head .shape) p)) → T (le t (pieceDist o p))
+unfolding pieceDist
+passed o p t h = carve-least (o .cuts) p t (distOf (o .head .shape) p) h
+
+-- the nearer of the best hit and a piece, by its distance as far as it matters
+pub choice
+    : (o : Piece) (p : Vec3) (best : DistHit) (d : Float) → Near (best .d) (pieceDist o p) d
+    → cond (lt d (best .d)) (record { d = d; mat = o .head .material }) best ≡ closer best (hitOf o p)
+unfolding hitOf
+choice o p best d n = at (lt d (best .d)) refl
+  where
+    at : (b : Bool) → lt d (best .d) ≡ b
+        → cond b (record { d = d; mat = o .head .material }) best ≡ closer best (hitOf o p)
+    at true e =
+        let s : d ≡ pieceDist o p = near-below (best .d) (pieceDist o p) d n e in
+        ap (λ (z : Float). hitAt (o .head .material) z) s
+        ∙ sym (is-closer best (hitAt (o .head .material) (pieceDist o p))
+        (subst (λ (z : Float). lt z (best .d) ≡ true) s e))
+    at false e =
+        sym (no-closer best (hitAt (o .head .material) (pieceDist o p)) (near-over (best .d) (pieceDist o p) d n e))

@@ -1,11 +1,12 @@
 -- The hit of a piece by the words of its row, and that what lies past the last row is never nearest and cuts nothing:
 -- its distance is no number. Assumes nothing.
 use mathlib.Core.Path.{_≡_, refl, sym, ap, subst, _∙_}
-use mathlib.Core.Bool.{true, false}
+use mathlib.Core.Bool.{true, false, cond}
 use mathlib.Core.List.{List}
-use Prim.Native.Nat.{ℕ, _+_, _*_, _≤_}
+use Prim.Native.Nat.{ℕ, _+_, _*_, _<_, _≤_}
 use native.Mathlib.Omega.{arith}
 use lib.Dec.{T}
+use native.Mathlib.Decide.{decLe}
 use borrow.Author.Tests.{ne-eqb}
 use lib.ListN.{length}
 use lib.Ieee.{Float, nan, inf, fin, binary32, add, sub, neg, lt, le, eq}
@@ -26,8 +27,7 @@ use Rattle.plan.specs.Plan.{cutsBy, pieceAt}
 use Rattle.plan.specs.Nearest.{cutBy, carve, pieceDist, hitOf, closer}
 use Rattle.plan.proofs.Lists.{rowHead, head-row, head-past, cutter-past}
 use Rattle.plan_near.specs.Inside.Rows.{shapeIn}
-use Rattle.plan_near.proofs.Near.{near-far, near-is, near-below, near-over, cut-near, no-closer, is-closer}
-use Rattle.plan_near.proofs.Near.{passed}
+use Rattle.plan_near.proofs.Near.{near-far, near-is, cut-near, no-closer, passed, choice}
 
 -- a kind that is none of the others
 pub cone-kind
@@ -37,19 +37,17 @@ unfolding shapeOf
 cone-kind k a b u v h0 h1 h2 h3 h4 h5 =
     rw (ne-eqb k 0 h0, ne-eqb k 1 h1, ne-eqb k 2 h2, ne-eqb k 3 h3, ne-eqb k 4 h4, ne-eqb k 5 h5)
 
--- the piece whose words start at i
-abbrev pub rowHit : List ℕ → List Float → ℕ → Vec3 → DistHit
-rowHit w f i p =
-    record {
-      d =
-          carve (cutsBy w f (369 + wordOf w (i + 12)) (wordOf w (i + 2))) p
-          (distOf (rowHead w f i .shape) p);
-      mat = wordOf w i;
-    }
+-- a piece's distance and material by its row
+pub dist-row
+    : (w : List ℕ) (f : List Float) (r : ℕ) (p : Vec3)
+    → pieceDist (pieceAt w f r) p
+    ≡ carve (cutsBy w f (369 + wordOf w (16 * r + 12)) (wordOf w (16 * r + 2))) p (distOf (rowHead w f (16 * r) .shape) p)
+unfolding pieceDist pieceAt
+dist-row w f r p = rw (head-row w f r)
 
-pub hit-row : (w : List ℕ) (f : List Float) (r : ℕ) (p : Vec3) → hitOf (pieceAt w f r) p ≡ rowHit w f (16 * r) p
-unfolding hitOf pieceDist pieceAt
-hit-row w f r p = rw (head-row w f r)
+mat-row : (w : List ℕ) (f : List Float) (r : ℕ) → pieceAt w f r .head .material ≡ wordOf w (16 * r)
+unfolding pieceAt
+mat-row w f r = rw (head-row w f r)
 
 -- a shape by the place of its floats, in a piece's row and in a cutter's
 pub head-shape
@@ -74,67 +72,36 @@ cut-row w f r p left t d n g =
     cut-near left t (distOf (shapeIn (wordOf w (16 * r)) f (16 * r + 1)) p) d n g
     ∙ ap (λ (s : Shape). fmax left (neg (distOf s p))) (cutter-shape w f r)
 
-abbrev pub hitAt : ℕ → Float → DistHit
-hitAt m z = record { d = z; mat = m }
+-- ---- a piece against the bound t: its primitive's distance worked out as `whole`, with its cutters as d
+module _ (w : List ℕ) (f : List Float) (r : ℕ) (p : Vec3) (t whole : Float)
+    (o : Near t (distOf (shapeIn (wordOf w (16 * r + 3)) f (16 * r + 4)) p) whole) where
+  n : Near t (distOf (rowHead w f (16 * r) .shape) p) whole
+  n = subst (λ (s : Shape). Near t (distOf s p) whole) (head-shape w f (16 * r)) o
 
--- ---- a piece against the best hit: its primitive's distance worked out as `whole`, with its cutters as d
-module _ (w : List ℕ) (f : List Float) (r : ℕ) (p : Vec3) (best : DistHit) (whole : Float)
-    (o : Near (best .d) (distOf (shapeIn (wordOf w (16 * r + 3)) f (16 * r + 4)) p) whole) where
-  n : Near (best .d) (distOf (rowHead w f (16 * r) .shape) p) whole
-  n = subst (λ (s : Shape). Near (best .d) (distOf s p) whole) (head-shape w f (16 * r)) o
-
-  pub row-passed : le (best .d) whole ≡ true → best ≡ closer best (hitOf (pieceAt w f r) p)
+  pub row-passed : le t whole ≡ true → T (le t (pieceDist (pieceAt w f r) p))
   unfolding pieceAt
   row-passed e =
-      sym (passed (pieceAt w f r) p best (rw (head-row w f r)
-      (near-far (best .d) (distOf (rowHead w f (16 * r) .shape) p) whole n (yes-of e))))
+      passed (pieceAt w f r) p t (rw (head-row w f r)
+      (near-far t (distOf (rowHead w f (16 * r) .shape) p) whole n (yes-of e)))
 
-  module _ (e : le (best .d) whole ≡ false) (d : Float)
-      (k : Near (best .d) (carve (cutsBy w f (369 + wordOf w (16 * r + 12)) (wordOf w (16 * r + 2))) p whole) d) where
-    exact : Near (best .d) (rowHit w f (16 * r) p .d) d
-    exact = subst
-        (λ (z : Float).
-        Near (best .d) (carve (cutsBy w f (369 + wordOf w (16 * r + 12)) (wordOf w (16 * r + 2))) p z) d)
-        (near-is (best .d) (distOf (rowHead w f (16 * r) .shape) p) whole n e) k
-
-    pub row-taken
-        : lt d (best .d) ≡ true → hitAt (wordOf w (16 * r)) d ≡ closer best (hitOf (pieceAt w f r) p)
-    row-taken l =
-        let s : d ≡ rowHit w f (16 * r) p .d = near-below (best .d) (rowHit w f (16 * r) p .d) d exact l in
-        rw (hit-row w f r p)
-        (ap (hitAt (wordOf w (16 * r))) s
-        ∙ sym (is-closer best (rowHit w f (16 * r) p) (subst (λ (z : Float). lt z (best .d) ≡ true) s l)))
-
-    pub row-left : lt d (best .d) ≡ false → best ≡ closer best (hitOf (pieceAt w f r) p)
-    row-left l =
-        rw (hit-row w f r p)
-        (sym (no-closer best (rowHit w f (16 * r) p) (near-over (best .d) (rowHit w f (16 * r) p .d) d exact l)))
+  pub row-carved
+      : le t whole ≡ false → (d : Float)
+      → Near t (carve (cutsBy w f (369 + wordOf w (16 * r + 12)) (wordOf w (16 * r + 2))) p whole) d
+      → Near t (pieceDist (pieceAt w f r) p) d
+  row-carved e d k =
+      rw (dist-row w f r p)
+      (subst
+      (λ (z : Float). Near t (carve (cutsBy w f (369 + wordOf w (16 * r + 12)) (wordOf w (16 * r + 2))) p z) d)
+      (near-is t (distOf (rowHead w f (16 * r) .shape) p) whole n e) k)
 
 -- ---- a plane that nothing cuts
-module _ (w : List ℕ) (f : List Float) (r : ℕ) (p : Vec3) (best : DistHit) (kind : wordOf w (16 * r + 3) ≡ 2)
-    (none : wordOf w (16 * r + 2) ≡ 0) (o : Float)
-    (dot : o ≡ vdot p (record {
-      x = floatOf f (16 * r + 4);
-      y = floatOf f (16 * r + 5);
-      z = floatOf f
-          (16 * r + 6);
-    })) where
-  plane-hit : hitOf (pieceAt w f r) p ≡ hitAt (wordOf w (16 * r)) (sub binary32 o (floatOf f (16 * r + 7)))
-  unfolding cutsBy listFrom carve distOf plane shapeOf
-  plane-hit = rw (hit-row w f r p, none, kind, dot)
-
-  pub plane-taken
-      : lt (sub binary32 o (floatOf f (16 * r + 7))) (best .d) ≡ true
-      → hitAt (wordOf w (16 * r)) (sub binary32 o (floatOf f (16 * r + 7))) ≡ closer best (hitOf (pieceAt w f r) p)
-  plane-taken l =
-      rw plane-hit
-      (sym (is-closer best (hitAt (wordOf w (16 * r)) (sub binary32 o (floatOf f (16 * r + 7)))) l))
-
-  pub plane-left
-      : lt (sub binary32 o (floatOf f (16 * r + 7))) (best .d) ≡ false → best ≡ closer best (hitOf (pieceAt w f r) p)
-  plane-left l =
-      rw plane-hit
-      (sym (no-closer best (hitAt (wordOf w (16 * r)) (sub binary32 o (floatOf f (16 * r + 7)))) l))
+pub plane-row
+    : (w : List ℕ) (f : List Float) (r : ℕ) (p : Vec3) → wordOf w (16 * r + 3) ≡ 2 → wordOf w (16 * r + 2) ≡ 0
+    → (o : Float)
+    → o ≡ vdot p (record { x = floatOf f (16 * r + 4); y = floatOf f (16 * r + 5); z = floatOf f (16 * r + 6) })
+    → sub binary32 o (floatOf f (16 * r + 7)) ≡ pieceDist (pieceAt w f r) p
+unfolding cutsBy listFrom carve distOf plane shapeOf
+plane-row w f r p kind none o dot = rw (dist-row w f r p, none, kind, dot)
 
 -- ---- past the last row
 minus-nan : (x : Float) → sub binary32 x nan ≡ nan
@@ -167,3 +134,19 @@ module _ (w : List ℕ) (f : List Float) (lw : length w ≡ 27296) (lf : length 
   pub cutter-none : (p : Vec3) (left : Float) → cutBy (cutterAt w f r) p left ≡ left
   unfolding cutBy
   cutter-none p left = rw (cutter-past w f lw lf r h, no-dist p) (no-cut left)
+
+-- ---- the nearer of the best hit and the piece in row r, whether there is one or not
+pub row-nearer
+    : (w : List ℕ) (f : List Float) → length w ≡ 27296 → length f ≡ 27296 → (r : ℕ) (p : Vec3) (best : DistHit)
+    → (d : Float) → (r < 1706 → Near (best .d) (pieceDist (pieceAt w f r) p) d) → (h : DistHit)
+    → (r < 1706 → h ≡ cond (lt d (best .d)) (record { d = d; mat = wordOf w (16 * r) }) best) × (1706 ≤ r → h ≡ best)
+    → h ≡ closer best (hitOf (pieceAt w f r) p)
+row-nearer w f lw lf r p best d n h q =
+    elim (decLe 1706 r) [
+      | yes g ↦ q .1 g ∙ sym (piece-past w f lw lf r g p best)
+      | no g ↦
+          let k : r < 1706 = omega (arith, g) in
+          q .0 k
+          ∙ ap (λ (m : ℕ). cond (lt d (best .d)) (record { d = d; mat = m }) best) (sym (mat-row w f r))
+          ∙ choice (pieceAt w f r) p best d (n k)
+    ]

@@ -1,6 +1,7 @@
 // The nearest of a plan's pieces: each distance is worked out as far as it matters, by its kind, straight from the
 // words of its row.
 ghost use mathlib.Core.Path.{_≡_};
+ghost use mathlib.Core.Bool.{cond};
 ghost use lib.Dec.{T};
 ghost use lib.Ieee.{neg, lt};
 ghost use Rattle.float_order.specs.Inside.Order.{number};
@@ -8,10 +9,10 @@ ghost use Rattle.sdf.specs.Shapes.{distOf};
 ghost use Rattle.sdf_near.specs.Inside.Near.{Near};
 ghost use Rattle.plan_near.specs.Inside.Rows.{shapeIn};
 ghost use Rattle.plan.specs.Sections.{cutterRow};
-ghost use Rattle.plan.specs.Records.{cutterAt};
+ghost use Rattle.plan.specs.Records.{wordOf, cutterAt};
 ghost use Rattle.plan.specs.Plan.{cutsBy, pieceAt, piecesFrom, planOf};
-ghost use Rattle.plan.specs.Nearest.{cutBy, carve, hitOf, closer, nearest, nothing, listHit};
-ghost use Prim.Native.Nat.{_+_, _<_};
+ghost use Rattle.plan.specs.Nearest.{cutBy, carve, pieceDist, hitOf, closer, nearest, nothing, listHit};
+ghost use Prim.Native.Nat.{_+_, _*_, _<_, _≤_};
 use plan::DistHit;
 use plan::Floats;
 use plan::Words;
@@ -97,31 +98,27 @@ fn carve(ws: &Words, fs: &Floats, place: u32, n: u32, p: Vec3, d: f32, best: f32
     left
 }
 
-// The nearer of the best hit and the piece in row r; past the last row there is none.
-pub fn nearer(ws: &Words, fs: &Floats, r: usize, p: Vec3, best: DistHit) -> DistHit
-    ensures { λ h. ⌜ h ≡ closer best (hitOf (pieceAt (now (ws .entry)) (now (fs .entry)) r) p) ⌝ }
+// The distance of the piece in row r, or t where it is no less. It gives back a number, as it is not inlined, and a hit
+// would go through memory.
+fn piece_in(ws: &Words, fs: &Floats, r: usize, x: f32, y: f32, z: f32, t: f32) -> f32
+    ensures { λ d. ⌜ (r < 1706
+        → Near t (pieceDist (pieceAt (now (ws .entry)) (now (fs .entry)) r) (record { x = x; y = y; z = z })) d) ⌝ }
 {
     if r < plan::ROWS {
         let i = 16 * r;
-        let whole = dist_in(ws[i + 3], fs, i + 4, p.x, p.y, p.z, best.d);
-        if best.d <= whole {
-            return best;
+        let whole = dist_in(ws[i + 3], fs, i + 4, x, y, z, t);
+        if t <= whole {
+            return t;
         }
-        let d = carve(ws, fs, ws[i + 12], ws[i + 2], p, whole, best.d);
-        if d < best.d {
-            return DistHit { d, mat: ws[i] };
-        }
-        return best;
+        return carve(ws, fs, ws[i + 12], ws[i + 2], Vec3 { x, y, z }, whole, t);
     }
-    // Only as a slice does a table tell the proof its length, which every place here lies past.
-    let _words: &[u32] = ws;
-    let _floats: &[f32] = fs;
-    best
+    t
 }
 
 // The same; a plane that nothing cuts, as a room's mostly are, with no call.
-fn plane_nearer(ws: &Words, fs: &Floats, r: usize, p: Vec3, best: DistHit) -> DistHit
-    ensures { λ h. ⌜ h ≡ closer best (hitOf (pieceAt (now (ws .entry)) (now (fs .entry)) r) p) ⌝ }
+fn plane_in(ws: &Words, fs: &Floats, r: usize, x: f32, y: f32, z: f32, t: f32) -> f32
+    ensures { λ d. ⌜ (r < 1706
+        → Near t (pieceDist (pieceAt (now (ws .entry)) (now (fs .entry)) r) (record { x = x; y = y; z = z })) d) ⌝ }
 {
     if r < plan::ROWS {
         let i = 16 * r;
@@ -132,15 +129,43 @@ fn plane_nearer(ws: &Words, fs: &Floats, r: usize, p: Vec3, best: DistHit) -> Di
                     y: fs[i + 5],
                     z: fs[i + 6],
                 };
-                let d = p.dot(n) - fs[i + 7];
-                if d < best.d {
-                    return DistHit { d, mat: ws[i] };
-                }
-                return best;
+                return Vec3 { x, y, z }.dot(n) - fs[i + 7];
             }
         }
     }
-    nearer(ws, fs, r, p, best)
+    piece_in(ws, fs, r, x, y, z, t)
+}
+
+// The nearer of the best hit and the piece in row r, whose distance is d, or no less than the best where d is that;
+// past the last row there is none.
+fn nearer_of(ws: &Words, r: usize, d: f32, best: DistHit) -> DistHit
+    ensures { λ h. ⌜ (r < 1706
+        → h ≡ cond (lt d (best .d)) (record { d = d; mat = wordOf (now (ws .entry)) (16 * r) }) best)
+        × (1706 ≤ r → h ≡ best) ⌝ }
+{
+    if r < plan::ROWS {
+        if d < best.d {
+            return DistHit { d, mat: ws[16 * r] };
+        }
+    }
+    best
+}
+
+pub fn nearer(ws: &Words, fs: &Floats, r: usize, p: Vec3, best: DistHit) -> DistHit
+    ensures { λ h. ⌜ h ≡ closer best (hitOf (pieceAt (now (ws .entry)) (now (fs .entry)) r) p) ⌝ }
+{
+    // Only as a slice does a table tell the proof its length, past which there is no piece.
+    let _words: &[u32] = ws;
+    let _floats: &[f32] = fs;
+    nearer_of(ws, r, piece_in(ws, fs, r, p.x, p.y, p.z, best.d), best)
+}
+
+fn plane_nearer(ws: &Words, fs: &Floats, r: usize, p: Vec3, best: DistHit) -> DistHit
+    ensures { λ h. ⌜ h ≡ closer best (hitOf (pieceAt (now (ws .entry)) (now (fs .entry)) r) p) ⌝ }
+{
+    let _words: &[u32] = ws;
+    let _floats: &[f32] = fs;
+    nearer_of(ws, r, plane_in(ws, fs, r, p.x, p.y, p.z, best.d), best)
 }
 
 // The best of a hit and n pieces from row r on.
