@@ -1,20 +1,28 @@
 -- Corners that are numbers stay numbers, and for them one test finds the lesser and the greater. By the cases of a
 -- float and of a test. Assumes nothing.
-use Prim.Native.Nat.{ℕ, zero, suc}
-use mathlib.Core.Path.{_≡_, refl, _∙_}
+use Prim.Native.Nat.{ℕ, zero, suc, _≤_, _<_}
+use mathlib.Core.Path.{_≡_, refl, sym, ap, subst, _∙_}
 use mathlib.Core.Bool.{Bool, true, false, not, cond, _||_}
+use mathlib.Core.Logic.{⊎-elim}
+use mathlib.Core.List.{List}
+use native.Mathlib.Omega.{arith}
 use lib.Dec.{T, eqb}
+use lib.ListN.{length, set, replicate, getD-replicate}
+use lib.Seq.{set-out, getD-set-same, getD-set-other}
 use lib.Ieee.{Float, nan, inf, fin, lt, eq, le, neg, ofBits}
 use Rattle.scalar.specs.Extremes.{fmin, fmax}
 use Rattle.vec.specs.Vec.{vsplat, vmin, vmax}
+use Rattle.vec.specs.declared.Vec3.{Vec3}
 use Rattle.sdf.specs.declared.Aabb.{Aabb}
+use Rattle.words.proofs.Laws.{less-or}
 use Rattle.float_order.specs.Inside.Order.{number}
 use Rattle.float_order.proofs.Order.{is-yes, number-eq, lt-is-not-le}
 use Rattle.float_order.proofs.Extremes.{fmin-either, fmax-either}
-use Rattle.bvh_boxes.specs.Boxes.{nowhere, merge, boxAt}
+use Rattle.bvh_boxes.specs.Boxes.{nowhere, merge, boxAt, noBox}
 use Rattle.bvh_split.specs.declared.Sweep.{Sweep}
 use Rattle.bvh_split.specs.Bins.{Bins, leftBox, costOf, choose}
-use Rattle.bvh_split.specs.Inside.Numbers.{lesserOf, greaterOf, Numbers}
+use Rattle.bvh_split.specs.Inside.Numbers.{lesserOf, greaterOf, Three, Numbers, AllNumbers}
+use Rattle.bvh_split.proofs.Table.{same-or}
 
 by-test : (c : Bool) (a b : Float) → cond c b a ≡ cond (not c) a (cond true b a)
 by-test true a b = refl
@@ -125,20 +133,68 @@ choose-hull s la lc i = go (eqb lc 0 || eqb (s .count) 0) (lt (costOf la lc (s .
     go false true = refl
     go false false = refl
 
--- six floats found by one test each
+-- ---- floats found by one test each
+pub min-by
+    : (a b : Vec3) (x y z : Float) → x ≡ lesserOf (a .x) (b .x) → y ≡ lesserOf (a .y) (b .y)
+    → z ≡ lesserOf (a .z) (b .z) → Three a → record { x = x; y = y; z = z } ≡ vmin a b
+unfolding vmin
+min-by a b x y z p q r h =
+    rw (
+      p ∙ lesser-law (a .x) (b .x) (h .at-x),
+      q ∙ lesser-law (a .y) (b .y) (h .at-y),
+      r ∙ lesser-law (a .z) (b .z) (h .at-z),
+    )
+
+pub max-by
+    : (a b : Vec3) (x y z : Float) → x ≡ greaterOf (a .x) (b .x) → y ≡ greaterOf (a .y) (b .y)
+    → z ≡ greaterOf (a .z) (b .z) → Three a → record { x = x; y = y; z = z } ≡ vmax a b
+unfolding vmax
+max-by a b x y z p q r h =
+    rw (
+      p ∙ greater-law (a .x) (b .x) (h .at-x),
+      q ∙ greater-law (a .y) (b .y) (h .at-y),
+      r ∙ greater-law (a .z) (b .z) (h .at-z),
+    )
+
 pub merge-by
     : (a b : Aabb) (x y z x' y' z' : Float)
     → x ≡ lesserOf (a .lo .x) (b .lo .x) → y ≡ lesserOf (a .lo .y) (b .lo .y) → z ≡ lesserOf (a .lo .z) (b .lo .z)
     → x' ≡ greaterOf (a .hi .x) (b .hi .x) → y' ≡ greaterOf (a .hi .y) (b .hi .y)
     → z' ≡ greaterOf (a .hi .z) (b .hi .z) → Numbers a
     → record { lo = record { x = x; y = y; z = z }; hi = record { x = x'; y = y'; z = z' } } ≡ merge a b
-unfolding merge vmin vmax
+unfolding merge
 merge-by a b x y z x' y' z' p q r p' q' r' h =
-    rw (
-      p ∙ lesser-law (a .lo .x) (b .lo .x) (h .low .at-x),
-      q ∙ lesser-law (a .lo .y) (b .lo .y) (h .low .at-y),
-      r ∙ lesser-law (a .lo .z) (b .lo .z) (h .low .at-z),
-      p' ∙ greater-law (a .hi .x) (b .hi .x) (h .high .at-x),
-      q' ∙ greater-law (a .hi .y) (b .hi .y) (h .high .at-y),
-      r' ∙ greater-law (a .hi .z) (b .hi .z) (h .high .at-z),
-    )
+    rw (min-by (a .lo) (b .lo) x y z p q r (h .low), max-by (a .hi) (b .hi) x' y' z' p' q' r' (h .high))
+
+-- ---- the boxes of all bins
+pub nowhere-all : (bs : List Aabb) (m : ℕ) → m ≡ 12 → bs ≡ replicate m nowhere → AllNumbers bs
+nowhere-all bs m e p = λ k l.
+    subst Numbers (sym (ap (λ (w : List Aabb). boxAt w k) p ∙ getD-replicate m k nowhere noBox (omega arith)))
+    nowhere-numbers
+
+merged-all
+    : (bs : List Aabb) (k : ℕ) (b : Aabb) → k ≤ 11 → AllNumbers bs
+    → AllNumbers (set bs k (merge (boxAt bs k) b))
+merged-all bs k b l h = λ j q. ⊎-elim (at j q) (λ n. out j q n) (less-or k (length bs))
+  where
+    out : (j : ℕ) → j ≤ 11 → length bs ≤ k → Numbers (boxAt (set bs k (merge (boxAt bs k) b)) j)
+    out j q n =
+        subst Numbers (sym (ap (λ (w : List Aabb). boxAt w j) (set-out bs k (merge (boxAt bs k) b) n))) (h j q)
+
+    other : (j : ℕ) → j ≤ 11 → (j ≡ k → ⊥) → Numbers (boxAt (set bs k (merge (boxAt bs k) b)) j)
+    other j q n = subst Numbers (sym (getD-set-other bs k j (merge (boxAt bs k) b) noBox n)) (h j q)
+
+    same : k < length bs → Numbers (boxAt (set bs k (merge (boxAt bs k) b)) k)
+    same n =
+        subst Numbers (sym (getD-set-same bs k (merge (boxAt bs k) b) noBox n)) (merge-numbers (boxAt bs k) b (h k l))
+
+    at : (j : ℕ) → j ≤ 11 → k < length bs → Numbers (boxAt (set bs k (merge (boxAt bs k) b)) j)
+    at j q n =
+        ⊎-elim
+        (λ e. subst (λ (i : ℕ). Numbers (boxAt (set bs k (merge (boxAt bs k) b)) i)) (sym e) (same n))
+        (other j q) (same-or j k)
+
+pub all-turn
+    : (bs bs' : List Aabb) (k : ℕ) (b : Aabb) → k ≤ 11 → bs' ≡ set bs k (merge (boxAt bs k) b) → AllNumbers bs
+    → AllNumbers bs'
+all-turn bs bs' k b l e h = subst AllNumbers (sym e) (merged-all bs k b l h)

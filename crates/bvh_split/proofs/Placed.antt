@@ -1,6 +1,6 @@
 -- Bins noted at their places, and a part moved with no branch: what a turn of each loop leaves. By the cases of a place
 -- and of a test. Assumes nothing.
-use Prim.Native.Nat.{ℕ, _+_, _-_, _*_, _/_, _%_, _≤_, _<_, min}
+use Prim.Native.Nat.{ℕ, _+_, _-_, _*_, _/_, _%_, _≤_, _<_}
 use mathlib.Core.Path.{_≡_, refl, sym, ap, _∙_}
 use mathlib.Core.Bool.{Bool, true, false, cond}
 use mathlib.Core.Logic.{⊎-elim}
@@ -8,12 +8,10 @@ use mathlib.Core.List.{List}
 use native.Mathlib.Nat.{le-refl, mul-zero, mul-one, mul-le-mul}
 use native.Mathlib.Omega.{arith}
 use borrow.Author.Tests.{ltb-true, ltb-false}
-use mir.Syntax.{w32}
-use mir.Val.{Fits}
-use lib.Dec.{ltb}
+use lib.Dec.{T, ltb}
 use lib.ListN.{length, getD, set}
 use lib.Seq.{getD-set-same, getD-set-other, set-getD}
-use lib.Ieee.{Float, ofBits}
+use lib.Ieee.{Float, binary32, ofBits, fits}
 use Rattle.sdf.specs.declared.Aabb.{Aabb}
 use Rattle.words.proofs.Laws.{less-or}
 use Rattle.bvh_boxes.specs.Boxes.{boxAt}
@@ -25,16 +23,16 @@ use Rattle.bvh_split.proofs.Whole.{Cuts, cuts}
 use Rattle.bvh_split.proofs.Turns.{part-more}
 
 -- ---- a bin's number
-pub cut-held : (x y z : Float) → y ≡ fromFirst x → z ≡ toLast y → Cuts x z
+pub cut-held : (x y z : Float) → T (fits binary32 x) → y ≡ fromFirst x → z ≡ toLast y → Cuts x z
 unfolding ofBits
-cut-held x y z p q = rw (q, p) (cuts x)
-
-pub few-fit : (r a : ℕ) → r ≡ min a 11 → Fits w32 r
-few-fit r a e = record { fits = omega arith }
+cut-held x y z f p q = rw (q, p) (cuts x f)
 
 bin-most : (g : Grid) (b : Aabb) → binOf g b ≤ 11
 unfolding binOf
 bin-most g b = omega arith
+
+pub bin-few : (g : Grid) (b : Aabb) (k : ℕ) → k ≡ binOf g b → k ≤ 11
+bin-few g b k e = let m = bin-most g b in omega arith
 
 -- ---- one where a bin lies below the split
 pub one-law

@@ -19,7 +19,7 @@ use Rattle.bvh_boxes.specs.Boxes.{boxAt, noBox}
 use Rattle.bvh_split.specs.declared.Row.{Row}
 use Rattle.bvh_split.specs.Inside.Table.{tableBox, tableBoxes, boxIn, putRow, rowFor, putBox}
 
-same-or : (i j : ℕ) → (i ≡ j) ⊎ (i ≡ j → ⊥)
+pub same-or : (i j : ℕ) → (i ≡ j) ⊎ (i ≡ j → ⊥)
 same-or i j =
     ⊎-elim (λ h. inr (λ e. omega arith)) (λ h. ⊎-elim (λ q. inr (λ e. omega arith)) (λ q. inl (omega arith))
     (less-or j i)) (less-or i j)

@@ -14,7 +14,7 @@ ghost use Rattle.bvh_split.specs.Bins.{costOf, choose, takeBin, splitBy}
 ghost use Rattle.bvh_split.specs.Part.{swapped, parted, evened, cutOf};
 ghost use Rattle.bvh_split.specs.Inside.Table.{tableBoxes, corner, boxIn, putRow, putBox};
 ghost use Rattle.bvh_split.specs.Inside.Sums.{binned, leftArea, leftThrough};
-ghost use Rattle.bvh_split.specs.Inside.Numbers.{lesserOf, greaterOf, Numbers};
+ghost use Rattle.bvh_split.specs.Inside.Numbers.{lesserOf, greaterOf, Three, Numbers, AllNumbers};
 ghost use Rattle.bvh_split.specs.Inside.Places.{fromFirst, toLast, Noted};
 use sdf::Aabb;
 use vec::Vec3;
@@ -85,25 +85,38 @@ fn splat(a: f32) -> Four
     }
 }
 
+fn lesser(a: f32, b: f32) -> f32
+    ensures { λ r. ⌜ r ≡ lesserOf a b ⌝ }
+{
+    if b <= a { b } else { a }
+}
+
+fn greater(a: f32, b: f32) -> f32
+    ensures { λ r. ⌜ r ≡ greaterOf a b ⌝ }
+{
+    if b >= a { b } else { a }
+}
+
+// The lower corner, for an a that is numbers: one test a float, as none of a is looked at.
 fn lower(a: Four, b: Four) -> Four
-    ensures { λ r. ⌜ corner r ≡ vmin (corner a) (corner b) ⌝ }
+    ensures { λ r. ⌜ (Three (corner a) → corner r ≡ vmin (corner a) (corner b)) ⌝ }
 {
     Four {
-        x: scalar::min(a.x, b.x),
-        y: scalar::min(a.y, b.y),
-        z: scalar::min(a.z, b.z),
-        w: scalar::min(a.w, b.w),
+        x: lesser(a.x, b.x),
+        y: lesser(a.y, b.y),
+        z: lesser(a.z, b.z),
+        w: lesser(a.w, b.w),
     }
 }
 
 fn upper(a: Four, b: Four) -> Four
-    ensures { λ r. ⌜ corner r ≡ vmax (corner a) (corner b) ⌝ }
+    ensures { λ r. ⌜ (Three (corner a) → corner r ≡ vmax (corner a) (corner b)) ⌝ }
 {
     Four {
-        x: scalar::max(a.x, b.x),
-        y: scalar::max(a.y, b.y),
-        z: scalar::max(a.z, b.z),
-        w: scalar::max(a.w, b.w),
+        x: greater(a.x, b.x),
+        y: greater(a.y, b.y),
+        z: greater(a.z, b.z),
+        w: greater(a.w, b.w),
     }
 }
 
@@ -118,8 +131,9 @@ fn halfway(a: Four, b: Four) -> Four
     }
 }
 
+// The least box around both, for an a whose corners are numbers.
 fn join(a: Row, b: Row) -> Row
-    ensures { λ r. ⌜ boxIn r ≡ merge (boxIn a) (boxIn b) ⌝ }
+    ensures { λ r. ⌜ (Numbers (boxIn a) → boxIn r ≡ merge (boxIn a) (boxIn b)) ⌝ }
 {
     Row {
         lo: lower(a.lo, b.lo),
@@ -309,11 +323,11 @@ fn grid_of(c: Aabb) -> Grid
     }
 }
 
-// What is not above 0 becomes 0.
+// What is not above 0.5 becomes 0.5.
 fn from_first(x: f32) -> f32
     ensures { λ r. ⌜ r ≡ fromFirst x ⌝ }
 {
-    if x > 0.0 { x } else { 0.0 }
+    if x > 0.5 { x } else { 0.5 }
 }
 
 // What is not below 11 becomes 11.
@@ -323,11 +337,12 @@ fn to_last(x: f32) -> f32
     if x < 11.0 { x } else { 11.0 }
 }
 
-// A float cut to a bin's number, with no way that depends on it.
+// A float cut to a bin's number, with no way that depends on it: from 0.5 to 11 its digits are cut by its exponent.
 fn bin_at(x: f32) -> u32
     ensures { λ r. ⌜ r ≡ binAt x ⌝ }
 {
-    std::num::truncating_f32_to_u64(to_last(from_first(x))) as u32
+    let b = f32::to_bits(to_last(from_first(x)));
+    (b % 0x80_0000 + 0x80_0000) >> (150 - b / 0x80_0000)
 }
 
 fn bin_of(g: Grid, b: Aabb) -> u32
@@ -369,9 +384,10 @@ fn count_in(n: &mut [u32; 12], k: usize)
     }
 }
 
-// One box more in bin k.
+// One box more in bin k, whose corners are numbers.
 fn drop_in(t: &mut [f32; 96], n: &mut [u32; 12], k: usize, b: Row)
-    ensures { λ _. ⌜ (tableBoxes (now (t .exit)) ≡ set (tableBoxes (now (t .entry))) k
+    ensures { λ _. ⌜ (Numbers (boxAt (tableBoxes (now (t .entry))) k)
+        → tableBoxes (now (t .exit)) ≡ set (tableBoxes (now (t .entry))) k
         (merge (boxAt (tableBoxes (now (t .entry))) k) (boxIn b)))
         × (now (n .exit) ≡ set (now (n .entry)) k (plus (getD (now (n .entry)) k 0) 1)) ⌝ }
 {
@@ -400,7 +416,8 @@ fn fill_bins(
     n: &mut [u32; 12],
     places: &mut [u32; 256],
 )
-    ensures { λ _. ⌜ (binned (now (b .exit)) (now (n .exit)) ≡ binsFrom g (binned (now (b .entry)) (now (n .entry)))
+    ensures { λ _. ⌜ (AllNumbers (tableBoxes (now (b .entry)))
+        → binned (now (b .exit)) (now (n .exit)) ≡ binsFrom g (binned (now (b .entry)) (now (n .entry)))
         (members (tableBoxes (now (t .entry))) (now (os .entry))))
         × Noted (tableBoxes (now (t .entry))) g (now (os .entry)) (now (places .exit))
         (length (now (os .entry))) ⌝ }
@@ -427,19 +444,7 @@ fn area(b: Aabb) -> f32
     2.0 * (d.x * d.y + d.y * d.z + d.z * d.x)
 }
 
-fn lesser(a: f32, b: f32) -> f32
-    ensures { λ r. ⌜ r ≡ lesserOf a b ⌝ }
-{
-    if b <= a { b } else { a }
-}
-
-fn greater(a: f32, b: f32) -> f32
-    ensures { λ r. ⌜ r ≡ greaterOf a b ⌝ }
-{
-    if b >= a { b } else { a }
-}
-
-// The least box around both, for an a whose corners are numbers: one test a float, as none of a is looked at.
+// The same of boxes.
 fn wider(a: Aabb, b: Aabb) -> Aabb
     ensures { λ r. ⌜ (Numbers a → r ≡ merge a b) ⌝ }
 {

@@ -1,6 +1,7 @@
 -- `bvh_split::best_split` meets its contract: what each step says, put together. Assumes nothing.
 use borrow.Author.Needs.{needs}
 use mathlib.Core.Path.{refl}
+use Rattle.bvh_split.proofs.Numbers.{nowhere-all}
 use Rattle.bvh_split.proofs.Turns.{best-of}
 use Rattle.bvh_split.proofs.best_split.Statement.{statement}
 use Rattle.bvh_split.proofs.best_split.Tie as tie
@@ -8,9 +9,10 @@ use Rattle.bvh_split.proofs.best_split.Tie as tie
 returns : tie.Need-returns
 returns c =
     let l = c .before .before .before .before .before in
-    let f = l .before .before .before .before .before in (
-      best-of _ _ _ _ _ _ _ _ _ _ refl refl (f .before .before .before .before .before .empty-boxes .ensures)
-          (f .fill-bins .ensures .0) (l .sweep-left .ensures) (c .sweep-right .ensures),
+    let f = l .before .before .before .before .before in
+    let e = f .before .before .before .before .before .empty-boxes .ensures in (
+      best-of _ _ _ _ _ _ _ _ _ _ refl refl e (f .fill-bins .ensures .0 (nowhere-all _ _ refl e))
+          (l .sweep-left .ensures) (c .sweep-right .ensures),
       f .fill-bins .ensures .1,
     )
 

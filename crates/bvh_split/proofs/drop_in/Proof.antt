@@ -1,15 +1,18 @@
 -- `bvh_split::drop_in` meets its contract: a row put is a box put. Assumes nothing.
 use borrow.Author.Needs.{needs}
-use mathlib.Core.Path.{ap, _∙_}
+use mathlib.Core.Path.{sym, ap, subst, _∙_}
 use Rattle.bvh_split.specs.Inside.Table.{tableBoxes}
+use Rattle.bvh_split.specs.Inside.Numbers.{Numbers}
 use Rattle.bvh_split.proofs.Table.{rows-put}
 use Rattle.bvh_split.proofs.drop_in.Statement.{statement}
 use Rattle.bvh_split.proofs.drop_in.Tie as tie
 
 returns : tie.Need-returns
 returns c = (
-  ap tableBoxes (c .put-row .ensures) ∙ rows-put _ _ _ ∙
-      (rw (c .before .before .join .ensures, c .before .before .before .row-at .ensures)),
+  λ h.
+      let r = c .before .before .before .row-at .ensures in
+      ap tableBoxes (c .put-row .ensures) ∙ rows-put _ _ _ ∙
+      (rw (c .before .before .join .ensures (subst Numbers (sym r) h), r)),
   c .before .before .before .before .before .before .count-in .ensures,
 )
 

@@ -9,23 +9,26 @@ use Rattle.bvh_split.specs.Range.{members}
 use Rattle.bvh_split.specs.Bins.{binOf, binsFrom}
 use Rattle.bvh_split.specs.Inside.Sums.{binned}
 use Rattle.bvh_split.specs.Inside.Places.{Noted}
+use Rattle.bvh_split.specs.Inside.Numbers.{AllNumbers}
+use Rattle.bvh_split.proofs.Numbers.{all-turn}
 use Rattle.bvh_split.proofs.Turns.{bins-turn, bins-none}
-use Rattle.bvh_split.proofs.Placed.{noted-turn}
+use Rattle.bvh_split.proofs.Placed.{bin-few, noted-turn}
 use Rattle.bvh_split.proofs.fill_bins.Statement.{statement}
 use Rattle.bvh_split.proofs.fill_bins.Tie as tie
 
 abbrev Inv-loop : tie.InvT-loop
 Inv-loop os t g b₀ n₀ places₀ i₀ b n places i =
     (i ≤ length os) ×
+    (AllNumbers (tableBoxes b₀) →
     (binsFrom g (binned b n) (members (tableBoxes t) (drop i os)) ≡ binsFrom g (binned b₀ n₀)
-    (members (tableBoxes t) os)) ×
+    (members (tableBoxes t) os)) × AllNumbers (tableBoxes b)) ×
     (length places ≡ 256) × Noted (tableBoxes t) g os places i
 
 abbrev μ-loop : tie.MeasureT-loop
 μ-loop os t g b₀ n₀ places₀ i₀ b n places i = length os - i
 
 loop-holds : tie.Need-loop-holds Inv-loop μ-loop
-loop-holds c = (search needs, refl, search needs, λ j h l. absurd (omega arith))
+loop-holds c = (search needs, λ h. (refl, h), search needs, λ j h l. absurd (omega arith))
 
 member-requires : tie.Need-member-requires Inv-loop μ-loop
 member-requires c κs = search needs
@@ -66,8 +69,13 @@ loop-again c =
     let w = c .before .before .before .note .ensures in
     let e = k .bin-of .ensures ∙ ap (binOf (a .g)) (k .before .box-in .ensures) in (
       omega arith,
-      bins-turn _ (a .os .now) (L .i) (a .g) (L .b) _ (L .n) _ _ _ _ (m .before .loop-test .taken) (m .member .ensures)
-          e (d .0) (d .1) (L .inv .1),
+      λ h.
+          let few = bin-few _ _ _ e in
+          let s = d .0 (L .inv .1 h .1 _ few) in (
+            bins-turn _ (a .os .now) (L .i) (a .g) (L .b) _ (L .n) _ _ _ _ (m .before .loop-test .taken)
+                (m .member .ensures) e s (d .1) (L .inv .1 h .0),
+            all-turn (tableBoxes (L .b)) _ _ _ few s (L .inv .1 h .1),
+          ),
       ap length w ∙ length-set (L .places) (L .i) _ ∙ L .inv .2,
       noted-turn (tableBoxes (a .t .now)) (a .g) (a .os .now) (L .places) _ (L .i) _ (L .inv .2) w
           (e ∙ ap (binOf (a .g)) (m .member .ensures)) (L .inv .3),
@@ -77,7 +85,7 @@ returns : tie.Need-returns Inv-loop μ-loop
 returns c =
     let L = c .before .loop .inv in
     let e = c .loop-test .left in
-    (sym (bins-none _ _ _ _ _ e) ∙ L .1, λ j h l. L .3 j (omega arith) l)
+    (λ h. sym (bins-none _ _ _ _ _ e) ∙ L .1 h .0, λ j h l. L .3 j (omega arith) l)
 
 pub fill-bins-spec : {M : Type 1} → statement M
 fill-bins-spec =

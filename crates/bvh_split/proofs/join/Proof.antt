@@ -6,7 +6,7 @@ use Rattle.bvh_split.proofs.join.Tie as tie
 
 returns : tie.Need-returns
 unfolding merge
-returns c = rw (c .upper .ensures, c .before .lower .ensures)
+returns c = λ h. rw (c .upper .ensures (h .high), c .before .lower .ensures (h .low))
 
 pub join-spec : {M : Type 1} → statement M
 join-spec = tie.close (tie.spec

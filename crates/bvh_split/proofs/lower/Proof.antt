@@ -1,12 +1,13 @@
--- `bvh_split::lower` meets its contract, by those of its calls. Assumes nothing.
+-- `bvh_split::lower` meets its contract: each of its calls finds the lesser. Assumes nothing.
 use borrow.Author.Needs.{needs}
-use Rattle.vec.specs.Vec.{vmin}
+use Rattle.bvh_split.proofs.Numbers.{min-by}
 use Rattle.bvh_split.proofs.lower.Statement.{statement}
 use Rattle.bvh_split.proofs.lower.Tie as tie
 
 returns : tie.Need-returns
-unfolding vmin
-returns c = rw (c .before .min3 .ensures, c .before .before .min2 .ensures, c .before .before .before .min .ensures)
+returns c =
+    let l = c .before in
+    min-by _ _ _ _ _ (l .before .before .lesser .ensures) (l .before .lesser2 .ensures) (l .lesser3 .ensures)
 
 pub lower-spec : {M : Type 1} → statement M
 lower-spec = tie.close (tie.spec

@@ -1,11 +1,13 @@
 -- `bvh_split::span_of` meets its contract: the objects still to come are added to what is there. Assumes nothing.
 use borrow.Author.Needs.{needs}
 use Prim.Native.Nat.{_≤_, _-_}
-use mathlib.Core.Path.{_≡_, sym, _∙_}
+use mathlib.Core.Path.{_≡_, sym, subst, _∙_}
 use native.Mathlib.Omega.{arith}
 use lib.ListN.{length, drop}
 use Rattle.bvh_split.specs.Inside.Table.{tableBoxes, boxIn}
+use Rattle.bvh_split.specs.Inside.Numbers.{Numbers}
 use Rattle.bvh_split.specs.Range.{members, spanFrom, spanOf}
+use Rattle.bvh_split.proofs.Numbers.{nowhere-numbers, merge-numbers}
 use Rattle.bvh_split.proofs.Turns.{span-turn, span-none}
 use Rattle.bvh_split.proofs.span_of.Statement.{statement}
 use Rattle.bvh_split.proofs.span_of.Tie as tie
@@ -14,7 +16,8 @@ abbrev Inv-loop : tie.InvT-loop
 Inv-loop os t kept hull₀ centres₀ i₀ hull centres i =
     (i ≤ length os) ×
     (spanFrom (record { hull = boxIn hull; centres = boxIn centres }) (members (tableBoxes t) (drop i os))
-    ≡ spanOf (tableBoxes t) os)
+    ≡ spanOf (tableBoxes t) os) ×
+    Numbers (boxIn hull) × Numbers (boxIn centres)
 
 abbrev μ-loop : tie.MeasureT-loop
 μ-loop os t kept hull₀ centres₀ i₀ hull centres i = length os - i
@@ -27,7 +30,12 @@ no-row-requires-2 c κs = search needs
 
 loop-holds : tie.Need-loop-holds Inv-loop μ-loop
 unfolding spanOf
-loop-holds c = (search needs, rw (c .no-row2 .ensures, c .before .no-row .ensures))
+loop-holds c = (
+  search needs,
+  rw (c .no-row2 .ensures, c .before .no-row .ensures),
+  subst Numbers (sym (c .before .no-row .ensures)) nowhere-numbers,
+  subst Numbers (sym (c .no-row2 .ensures)) nowhere-numbers,
+)
 
 member-requires : tie.Need-member-requires Inv-loop μ-loop
 member-requires c κs = search needs
@@ -54,11 +62,14 @@ loop-less c = search needs
 loop-again : tie.Need-loop-again Inv-loop μ-loop
 loop-again c =
     let L = c .before .before .before .before .before .loop in
-    let a = c .before .before .before .before .before .before .before .before .before .before .args in (
+    let a = c .before .before .before .before .before .before .before .before .before .before .args in
+    let h = c .before .before .join .ensures (L .inv .2) in
+    let k = c .join2 .ensures (L .inv .3) in (
       omega arith,
       span-turn _ (a .os .now) (L .i) _ _ _ _ _ _ _ (c .before .before .before .before .loop-test .taken)
-          (c .before .before .before .member .ensures) (c .before .before .join .ensures) (c .before .middle .ensures)
-          (c .join2 .ensures) (L .inv .1),
+          (c .before .before .before .member .ensures) h (c .before .middle .ensures) k (L .inv .1),
+      subst Numbers (sym h) (merge-numbers _ _ (L .inv .2)),
+      subst Numbers (sym k) (merge-numbers _ _ (L .inv .3)),
     )
 
 put-row-requires : tie.Need-put-row-requires Inv-loop μ-loop

@@ -1,12 +1,13 @@
--- `bvh_split::upper` meets its contract, by those of its calls. Assumes nothing.
+-- `bvh_split::upper` meets its contract: each of its calls finds the greater. Assumes nothing.
 use borrow.Author.Needs.{needs}
-use Rattle.vec.specs.Vec.{vmax}
+use Rattle.bvh_split.proofs.Numbers.{max-by}
 use Rattle.bvh_split.proofs.upper.Statement.{statement}
 use Rattle.bvh_split.proofs.upper.Tie as tie
 
 returns : tie.Need-returns
-unfolding vmax
-returns c = rw (c .before .max3 .ensures, c .before .before .max2 .ensures, c .before .before .before .max .ensures)
+returns c =
+    let l = c .before in
+    max-by _ _ _ _ _ (l .before .before .greater .ensures) (l .before .greater2 .ensures) (l .greater3 .ensures)
 
 pub upper-spec : {M : Type 1} → statement M
 upper-spec = tie.close (tie.spec

@@ -1,9 +1,12 @@
 -- Corners that are numbers, and the lesser and the greater of a number and any float by one test. Definitions only.
+use Prim.Native.Nat.{ℕ, _≤_}
 use mathlib.Core.Bool.{cond}
+use mathlib.Core.List.{List}
 use lib.Dec.{T}
 use lib.Ieee.{Float, le}
 use Rattle.vec.specs.declared.Vec3.{Vec3}
 use Rattle.sdf.specs.declared.Aabb.{Aabb}
+use Rattle.bvh_boxes.specs.Boxes.{boxAt}
 use Rattle.float_order.specs.Inside.Order.{number}
 
 abbrev pub lesserOf : Float → Float → Float
@@ -20,3 +23,7 @@ pub record Three (v : Vec3) : Type 0 where
 pub record Numbers (b : Aabb) : Type 0 where
   pub low : Three (b .lo)
   pub high : Three (b .hi)
+
+-- the boxes of all bins
+abbrev pub AllNumbers : List Aabb → Type 0
+AllNumbers bs = (k : ℕ) → k ≤ 11 → Numbers (boxAt bs k)

@@ -1,4 +1,4 @@
--- A float brought between the first bin and the last, and the bins of a range's objects noted at their places.
+-- A float brought between 0.5, of the first bin, and 11, of the last, and the bins of a range's objects noted at their places.
 -- Definitions only.
 use Prim.Native.Nat.{ℕ, _<_}
 use mathlib.Core.Path.{_≡_}
@@ -6,7 +6,7 @@ use mathlib.Core.Bool.{cond}
 use mathlib.Core.List.{List}
 use lib.ListN.{getD}
 use lib.Ieee.{Float, binary32, ofBits, lt}
-use Rattle.scalar.specs.F32.{f0}
+use Rattle.scalar.specs.F32.{fhalf}
 use Rattle.sdf.specs.declared.Aabb.{Aabb}
 use Rattle.bvh_boxes.specs.Boxes.{boxAt}
 use Rattle.bvh_split.specs.declared.Grid.{Grid}
@@ -16,7 +16,7 @@ abbrev f11 : Float
 f11 = ofBits binary32 0x4130_0000
 
 abbrev pub fromFirst : Float → Float
-fromFirst x = cond (lt f0 x) x f0
+fromFirst x = cond (lt fhalf x) x fhalf
 
 abbrev pub toLast : Float → Float
 toLast x = cond (lt x f11) x f11
