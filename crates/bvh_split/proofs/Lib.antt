@@ -1,5 +1,4 @@
 pub mod Whole
-pub mod Table
 pub mod Turns
 pub mod Placed
 pub mod Numbers

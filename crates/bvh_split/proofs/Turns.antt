@@ -3,67 +3,39 @@
 use Prim.Native.Nat.{ℕ, zero, suc, _+_, _-_, _/_, _≤_, _<_}
 use mathlib.Core.Path.{_≡_, refl, sym, ap, _∙_}
 use mathlib.Core.Bool.{Bool, cond}
-use mathlib.Core.List.{List, [], _∷_}
+use mathlib.Core.List.{List}
 use native.Mathlib.Numerals.{add-one}
 use native.Mathlib.Omega.{arith}
-use lib.ListN.{length, getD, set, take, drop, replicate, replicate-append-replicate, drop-of-length-le}
-use lib.Seq.{drop-cons, take-suc-set, take-all}
+use lib.ListN.{length, getD, set, take, drop, replicate, replicate-append-replicate}
+use lib.Seq.{take-suc-set, take-all}
 use lib.Ieee.{Float, nan}
 use Rattle.sdf.specs.declared.Aabb.{Aabb}
 use Rattle.words.specs.Lists.{listFrom}
 use Rattle.words.proofs.Runs.{getD-from}
 use Rattle.bvh_boxes.specs.Boxes.{nowhere, merge, boxAt}
+use Rattle.bvh_range.specs.declared.Row.{Row}
+use Rattle.bvh_range.specs.Inside.Table.{tableBoxes, boxIn, putRow}
+use Rattle.bvh_range.specs.Range.{members}
+use Rattle.bvh_range.proofs.Members.{members-more, members-none}
+use Rattle.bvh_range.proofs.Table.{box-count, length-put-row, rows-put}
 use Rattle.bvh_split.specs.declared.Grid.{Grid}
-use Rattle.bvh_split.specs.declared.Span.{Span}
 use Rattle.bvh_split.specs.declared.Sweep.{Sweep}
-use Rattle.bvh_split.specs.declared.Row.{Row}
-use Rattle.bvh_split.specs.Inside.Table.{tableBoxes, boxIn, putRow}
-use Rattle.bvh_split.specs.Range.{members, point, grow, spanFrom}
 use Rattle.bvh_split.specs.Bins.{binOf, plus, Bins, noBins, dropIn, binsFrom, area, leftBox, leftCount, takeBin}
 use Rattle.bvh_split.specs.Bins.{choose, stepAt, sweepFrom, splitBy}
 use Rattle.bvh_split.specs.Inside.Sums.{binned, leftArea, leftThrough}
 use Rattle.bvh_split.specs.Part.{swapped, goesLeft, Parted, partFrom}
-use Rattle.bvh_split.proofs.Table.{box-count, length-put-row, rows-put}
 
 -- ---- over the objects of a range
 module _ (bs : List Aabb) (os : List ℕ) (i : ℕ) where
-  members-more : i < length os → members bs (drop i os) ≡ boxAt bs (getD os i 0) ∷ members bs (drop (i + 1) os)
-  unfolding members
-  members-more h = rw (drop-cons os i 0 h, add-one)
-
-  members-none : length os ≤ i → members bs (drop i os) ≡ []
-  unfolding members
-  members-none h = rw (drop-of-length-le os h)
-
-  span-more : (s : Span) → i < length os
-      → spanFrom s (members bs (drop i os)) ≡ spanFrom (grow s (boxAt bs (getD os i 0)))
-      (members bs (drop (i + 1) os))
-  unfolding spanFrom
-  span-more s h = rw (members-more h)
-
-  -- by a hull and centres that are held apart
-  pub span-turn
-      : (h h' c c' m p : Aabb) (s : Span) → i < length os
-      → m ≡ boxAt bs (getD os i 0) → h' ≡ merge h m → p ≡ point m → c' ≡ merge c p
-      → spanFrom (record { hull = h; centres = c }) (members bs (drop i os)) ≡ s
-      → spanFrom (record { hull = h'; centres = c' }) (members bs (drop (i + 1) os)) ≡ s
-  unfolding grow
-  span-turn h h' c c' m p s l e₁ e₂ e₃ e₄ v =
-      rw (e₂, e₄, e₃, e₁) (sym (span-more (record { hull = h; centres = c }) l) ∙ v)
-
-  pub span-none : (s : Span) → length os ≤ i → spanFrom s (members bs (drop i os)) ≡ s
-  unfolding spanFrom
-  span-none s h = rw (members-none h)
-
   bins-more : (g : Grid) (σ : Bins) → i < length os
       → binsFrom g σ (members bs (drop i os)) ≡ binsFrom g (dropIn g σ (boxAt bs (getD os i 0)))
       (members bs (drop (i + 1) os))
   unfolding binsFrom
-  bins-more g σ h = rw (members-more h)
+  bins-more g σ h = rw (members-more bs os i h)
 
   pub bins-none : (g : Grid) (σ : Bins) → length os ≤ i → binsFrom g σ (members bs (drop i os)) ≡ σ
   unfolding binsFrom
-  bins-none g σ h = rw (members-none h)
+  bins-none g σ h = rw (members-none bs os i h)
 
 -- a box dropped into the two arrays is dropped into the bins that they hold
 drop-binned : (g : Grid) (f f' : List Float) (n n' : List ℕ) (k : ℕ) (m : Aabb) → k ≡ binOf g m

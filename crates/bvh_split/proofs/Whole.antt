@@ -3,11 +3,11 @@
 use Prim.Native.Nat.{ℕ, suc, _+_, _-_, _*_, _/_, _%_, _^_, _≤_, _<_, min}
 use mathlib.Core.Path.{_≡_, refl, sym, ap, subst, _∙_}
 use mathlib.Core.Bool.{Bool, true, false, not, cond}
-use native.Mathlib.Nat.{min-eq-left, mul-one, mul-comm, mul-assoc, div-eq-of-lt, div-lt-iff-lt-mul, le-div-iff-mul-le}
-use native.Mathlib.Nat.{mul-div-mul-right, mul-lt-mul-of-pos-right, lt-of-mul-lt-mul-right, lt-of-lt-of-le}
+use native.Mathlib.Nat.{mul-one, mul-comm, mul-assoc, div-eq-of-lt, div-lt-iff-lt-mul, le-div-iff-mul-le}
+use native.Mathlib.Nat.{mul-div-mul-right, mul-lt-mul-of-pos-right, lt-of-mul-lt-mul-right}
 use native.Mathlib.Omega.{arith}
 use borrow.Author.Tests.{ltb-true, ltb-false}
-use lib.Dec.{T, lit≤, lit<}
+use lib.Dec.{T, lit≤}
 use lib.IntN.{ℤ, pos, negsuc}
 use lib.Pow.{pow-pos, pow-add}
 use lib.Ieee.{Float, nan, inf, fin, binary32, up, down, lt, toUnsigned, toBits, fits, isNan}

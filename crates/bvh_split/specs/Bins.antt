@@ -12,9 +12,9 @@ use Rattle.sdf.specs.declared.Aabb.{Aabb}
 use Rattle.sdf.specs.Boxes.{centreOf}
 use Rattle.refusals.specs.Ranges.{greatest}
 use Rattle.bvh_boxes.specs.Boxes.{nowhere, merge, boxAt}
+use Rattle.bvh_range.specs.Range.{extentOf, axisOf}
 use Rattle.bvh_split.specs.declared.Grid.{Grid}
 use Rattle.bvh_split.specs.declared.Sweep.{Sweep}
-use Rattle.bvh_split.specs.Range.{extentOf, axisOf}
 
 -- where the bins lie: the axis, its low end and 12 by its extent
 unfoldable pub gridOf : Aabb → Grid

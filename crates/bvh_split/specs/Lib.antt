@@ -1,4 +1,3 @@
-pub mod Range
 pub mod Bins
 pub mod Part
 pub mod Inside

@@ -1,9 +1,9 @@
 -- `bvh_split::drop_in` meets its contract: a row put is a box put. Assumes nothing.
 use borrow.Author.Needs.{needs}
 use mathlib.Core.Path.{sym, ap, subst, _∙_}
-use Rattle.bvh_split.specs.Inside.Table.{tableBoxes}
-use Rattle.bvh_split.specs.Inside.Numbers.{Numbers}
-use Rattle.bvh_split.proofs.Table.{rows-put}
+use Rattle.bvh_range.specs.Inside.Table.{tableBoxes}
+use Rattle.bvh_range.specs.Inside.Numbers.{Numbers}
+use Rattle.bvh_range.proofs.Table.{rows-put}
 use Rattle.bvh_split.proofs.drop_in.Statement.{statement}
 use Rattle.bvh_split.proofs.drop_in.Tie as tie
 

@@ -5,7 +5,7 @@ use mathlib.Core.Path.{_≡_, refl, ap, _∙_}
 use native.Mathlib.Omega.{arith}
 use lib.ListN.{length, take, replicate}
 use Rattle.bvh_boxes.specs.Boxes.{nowhere}
-use Rattle.bvh_split.specs.Inside.Table.{tableBoxes}
+use Rattle.bvh_range.specs.Inside.Table.{tableBoxes}
 use Rattle.bvh_split.proofs.Turns.{length-turn, empty-turn, empty-all}
 use Rattle.bvh_split.proofs.empty_boxes.Statement.{statement}
 use Rattle.bvh_split.proofs.empty_boxes.Tie as tie

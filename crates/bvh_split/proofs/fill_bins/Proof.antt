@@ -4,12 +4,12 @@ use Prim.Native.Nat.{_≤_, _-_}
 use mathlib.Core.Path.{_≡_, refl, sym, ap, _∙_}
 use native.Mathlib.Omega.{arith}
 use lib.ListN.{length, drop, length-set}
-use Rattle.bvh_split.specs.Inside.Table.{tableBoxes}
-use Rattle.bvh_split.specs.Range.{members}
+use Rattle.bvh_range.specs.Inside.Table.{tableBoxes}
+use Rattle.bvh_range.specs.Range.{members}
 use Rattle.bvh_split.specs.Bins.{binOf, binsFrom}
 use Rattle.bvh_split.specs.Inside.Sums.{binned}
 use Rattle.bvh_split.specs.Inside.Places.{Noted}
-use Rattle.bvh_split.specs.Inside.Numbers.{AllNumbers}
+use Rattle.bvh_split.specs.Inside.Sums.{AllNumbers}
 use Rattle.bvh_split.proofs.Numbers.{all-turn}
 use Rattle.bvh_split.proofs.Turns.{bins-turn, bins-none}
 use Rattle.bvh_split.proofs.Placed.{bin-few, noted-turn}

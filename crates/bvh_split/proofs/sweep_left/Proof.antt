@@ -6,9 +6,9 @@ use native.Mathlib.Omega.{arith}
 use lib.ListN.{length, take}
 use Rattle.words.specs.Lists.{listFrom}
 use Rattle.words.proofs.Runs.{fill-more, fill-all}
+use Rattle.bvh_range.specs.Inside.Numbers.{Numbers}
 use Rattle.bvh_split.specs.Bins.{leftBox, leftCount}
 use Rattle.bvh_split.specs.Inside.Sums.{binned, leftArea, leftThrough}
-use Rattle.bvh_split.specs.Inside.Numbers.{Numbers}
 use Rattle.bvh_split.proofs.Numbers.{left-numbers}
 use Rattle.bvh_split.proofs.Turns.{box-turn, count-turn, area-turn, through-turn}
 use Rattle.bvh_split.proofs.sweep_left.Statement.{statement}

@@ -4,11 +4,12 @@ use Prim.Native.Nat.{_≤_}
 use mathlib.Core.Path.{_≡_, sym, ap, subst, _∙_}
 use native.Mathlib.Omega.{arith}
 use Rattle.words.specs.Lists.{listFrom}
+use Rattle.bvh_range.specs.Inside.Numbers.{Numbers}
+use Rattle.bvh_range.proofs.Numbers.{nowhere-numbers, merge-numbers}
 use Rattle.bvh_split.specs.Bins.{noSweep, takeBin, sweepFrom, splitBy}
 use Rattle.bvh_split.specs.Inside.Sums.{binned, leftArea, leftThrough}
 use Rattle.bvh_split.specs.declared.Sweep.{Sweep}
-use Rattle.bvh_split.specs.Inside.Numbers.{Numbers}
-use Rattle.bvh_split.proofs.Numbers.{nowhere-numbers, merge-numbers, choose-hull}
+use Rattle.bvh_split.proofs.Numbers.{choose-hull}
 use Rattle.bvh_split.proofs.Turns.{sweep-more, sweep-none}
 use Rattle.bvh_split.proofs.sweep_right.Statement.{statement}
 use Rattle.bvh_split.proofs.sweep_right.Tie as tie
