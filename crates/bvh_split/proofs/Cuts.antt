@@ -9,8 +9,8 @@ use lib.Dec.{ltb, eqb}
 use lib.ListN.{length, getD, set}
 use borrow.Author.Tests.{ltb-true, eqb-false}
 use Rattle.sdf.specs.declared.Aabb.{Aabb}
-use Rattle.bvh_split.specs.declared.Grid.{Grid}
-use Rattle.bvh_split.specs.Bins.{gridOf}
+use Rattle.bvh_bins.specs.declared.Grid.{Grid}
+use Rattle.bvh_bins.specs.Bins.{gridOf}
 use Rattle.bvh_split.specs.Part.{swapped, goesLeft, partFrom, parted, evened, splitOf, cutOf}
 use Rattle.bvh_split.proofs.Perms.{Perm, Each, perm-length, perm-all, exchange-perm}
 

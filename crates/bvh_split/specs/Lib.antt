@@ -1,3 +1,1 @@
-pub mod Bins
 pub mod Part
-pub mod Inside
