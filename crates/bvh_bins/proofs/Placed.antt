@@ -1,5 +1,5 @@
--- A bin's number, from a float that is cut, and bins noted at their places: what a turn of the loop leaves. By the cases
--- of a place. Assumes nothing.
+-- A bin's number, from a float that is cut, and bins noted at their places: what a turn of the loop leaves. By the
+-- cases of a place. Assumes nothing.
 use Prim.Native.Nat.{ℕ, _+_, _≤_}
 use mathlib.Core.Path.{_≡_, sym, ap, _∙_}
 use mathlib.Core.Logic.{⊎-elim}

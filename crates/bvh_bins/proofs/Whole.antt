@@ -110,8 +110,10 @@ between m e f g h =
     let v = has .1 in
     let a = m * up e in
     let d = down e in
-    let l : 0x3f00_0000 < p = lt-of-val {p = 0x3f00_0000} {q = p} (above-half a d (val p) v (down-pos e) (omega arith)) in
-    let u : p < 0x4130_0000 = lt-of-val {p = p} {q = 0x4130_0000} (below-eleven a d (val p) v (down-pos e) (omega arith)) in
+    let v1 = above-half a d (val p) v (down-pos e) (omega arith) in
+    let l : 0x3f00_0000 < p = lt-of-val {p = 0x3f00_0000} {q = p} v1 in
+    let v2 = below-eleven a d (val p) v (down-pos e) (omega arith) in
+    let u : p < 0x4130_0000 = lt-of-val {p = p} {q = 0x4130_0000} v2 in
     let low : 126 ≤ p / 8388608 = omega arith in
     let high : p / 8388608 ≤ 130 = omega arith in
     let few : a / d < 11 = div-lt-iff-lt-mul (down-pos e) .1 (omega arith) in

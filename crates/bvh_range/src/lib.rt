@@ -61,7 +61,7 @@ fn greater(a: f32, b: f32) -> f32
     if b >= a { b } else { a }
 }
 
-// The lower corner, for an a that is numbers: one test a float, as none of a is looked at.
+// The lower corner, for an a that is numbers: then one test a float is enough, which a NaN of b fails.
 fn lower(a: Four, b: Four) -> Four
     ensures { λ r. ⌜ (Three (corner a) → corner r ≡ vmin (corner a) (corner b)) ⌝ }
 {

@@ -1,5 +1,5 @@
--- A float brought between 0.5, of the first bin, and 11, of the last, and the bins of a range's objects noted at their places.
--- Definitions only.
+-- A float brought between 0.5, in the first bin, and 11, in the last, and the bins of a range's objects noted at their
+-- places. Definitions only.
 use Prim.Native.Nat.{ℕ, _<_}
 use mathlib.Core.Path.{_≡_}
 use mathlib.Core.Bool.{cond}
