@@ -11,9 +11,9 @@ use Rattle.sdf.specs.declared.Aabb.{Aabb}
 use Rattle.bvh_boxes.specs.Boxes.{finiteBox, inside, nowhere, hullFrom, boxAt}
 use Rattle.bvh_boxes.proofs.Laws.{StandIn, hull-whole, hull-holds, hull-of-some}
 use Rattle.bvh_rules.specs.Rules.{hull, weight, Boxed}
-use Rattle.bvh_split.specs.Range.{members, spanOf}
+use Rattle.bvh_range.specs.Range.{members, spanOf}
+use Rattle.bvh_range.proofs.Members.{members-length, members-at, span-hull}
 use Rattle.bvh_split.proofs.Perms.{Each}
-use Rattle.bvh_split.proofs.Cuts.{members-length, members-at, span-hull}
 use Rattle.bvh_build.specs.Build.{TreeOrder, leafOf, joined, buildOf}
 use Rattle.bvh_build.proofs.Fuel.{stopsAt, leftPart, rightPart, build-each}
 use Rattle.bvh_build.proofs.Same.{left-all, right-all}

@@ -13,7 +13,7 @@ use borrow.Author.Tests.{leb-false}
 use Rattle.sdf.specs.declared.Aabb.{Aabb}
 use Rattle.vec.specs.declared.Vec3.{Vec3}
 use Rattle.vec.specs.Vec.{vaxis}
-use Rattle.bvh_split.specs.Range.{spanOf, extentOf, axisOf, narrowest, stops}
+use Rattle.bvh_range.specs.Range.{spanOf, extentOf, axisOf, narrowest, stops}
 use Rattle.bvh_split.specs.Part.{Parted, cutOf}
 use Rattle.bvh_split.proofs.Cuts.{cut-length, cut-mid}
 use Rattle.bvh_build.specs.Build.{TreeOrder, wayOf, leafOf, joined, buildFrom, buildOf}

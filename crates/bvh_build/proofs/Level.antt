@@ -15,8 +15,8 @@ use borrow.Rule.Slice.PartMut.{putMid, same-len-mid}
 use Rattle.sdf.specs.declared.Aabb.{Aabb}
 use Rattle.vec.specs.declared.Vec3.{Vec3}
 use Rattle.bvh_rules.specs.Rules.{size, weight}
-use Rattle.bvh_split.specs.declared.Span.{Span}
-use Rattle.bvh_split.specs.Range.{spanOf, extentOf, stops}
+use Rattle.bvh_range.specs.declared.Span.{Span}
+use Rattle.bvh_range.specs.Range.{spanOf, extentOf, stops}
 use Rattle.bvh_split.specs.Part.{cutOf}
 use Rattle.bvh_split.proofs.Cuts.{cut-length, cut-mid}
 use Rattle.bvh_build.specs.declared.Built.{Built}

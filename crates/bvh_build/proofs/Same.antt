@@ -10,10 +10,10 @@ use lib.ListN.{length, getD, take, drop, length-take, length-drop}
 use lib.Seq.{getD-take, getD-drop}
 use Rattle.sdf.specs.declared.Aabb.{Aabb}
 use Rattle.bvh_boxes.specs.Boxes.{boxAt}
-use Rattle.bvh_split.specs.declared.Grid.{Grid}
-use Rattle.bvh_split.specs.declared.Span.{Span}
-use Rattle.bvh_split.specs.Range.{members, spanFrom, noSpan, spanOf, extentOf, stops}
-use Rattle.bvh_split.specs.Bins.{gridOf, noBins, binOf, binsFrom, splitBy}
+use Rattle.bvh_range.specs.declared.Span.{Span}
+use Rattle.bvh_range.specs.Range.{members, spanFrom, noSpan, spanOf, extentOf, stops}
+use Rattle.bvh_bins.specs.declared.Grid.{Grid}
+use Rattle.bvh_bins.specs.Bins.{gridOf, noBins, binOf, binsFrom, splitBy}
 use Rattle.bvh_split.specs.Part.{swapped, goesLeft, Parted, partFrom, parted, evened, splitOf, cutOf}
 use Rattle.bvh_split.proofs.Perms.{Each, perm-all}
 use Rattle.bvh_split.proofs.Cuts.{swapped-perm, length-swapped, cut-all}

@@ -11,7 +11,7 @@ use lib.ListN.{length, length-append}
 use borrow.Author.Tests.{ltb-true, ltb-false, lt-ltb, le-ltb}
 use Rattle.sdf.specs.declared.Aabb.{Aabb}
 use Rattle.bvh_rules.specs.Rules.{Tree, leaf, node, size, weight, depth}
-use Rattle.bvh_split.specs.Range.{spanOf}
+use Rattle.bvh_range.specs.Range.{spanOf}
 use Rattle.bvh_split.proofs.Perms.{Perm, perm-length, perm-halves}
 use Rattle.bvh_split.proofs.Cuts.{cut-once}
 use Rattle.bvh_build.specs.Build.{TreeOrder, leafOf, joined, buildOf}

@@ -10,8 +10,8 @@ use lib.Seq.{length-take-le, take-suc, take-all}
 use lib.Ieee.{Float}
 use Rattle.sdf.specs.declared.Aabb.{Aabb}
 use Rattle.bvh_boxes.specs.Boxes.{boxAt, noBox}
-use Rattle.bvh_split.specs.Inside.Table.{tableBoxes, putBox}
-use Rattle.bvh_split.proofs.Table.{boxes-put, length-put-box}
+use Rattle.bvh_range.specs.Inside.Table.{tableBoxes, putBox}
+use Rattle.bvh_range.proofs.Table.{boxes-put, length-put-box}
 use Rattle.bvh_build.specs.Encode.{wordFor, nodeWords, laid}
 use Rattle.bvh_build.proofs.Laid.{laid-snoc}
 

@@ -19,8 +19,8 @@ use Rattle.bvh_boxes.specs.Boxes.{boxesOf, boxAt, noBox}
 use Rattle.bvh_boxes.proofs.Lists as lists
 use Rattle.bvh_boxes.proofs.Lists.{boxes-length}
 use Rattle.bvh_rules.specs.Rules.{place}
-use Rattle.bvh_split.specs.Inside.Table.{tableBoxes}
-use Rattle.bvh_split.proofs.Table.{box-count, box-here}
+use Rattle.bvh_range.specs.Inside.Table.{tableBoxes}
+use Rattle.bvh_range.proofs.Table.{box-count, box-here}
 use Rattle.bvh_split.proofs.Perms.{Each}
 use Rattle.bvh_build.specs.declared.Built.{Built}
 use Rattle.bvh_build.specs.Build.{TreeOrder, buildOf}

@@ -7,8 +7,8 @@ use mathlib.Core.List.{List, _++_}
 use lib.ListN.{length, take, drop}
 use Rattle.sdf.specs.declared.Aabb.{Aabb}
 use Rattle.bvh_rules.specs.Rules.{Tree, leaf, node}
-use Rattle.bvh_split.specs.declared.Span.{Span}
-use Rattle.bvh_split.specs.Range.{spanOf, extentOf, stops}
+use Rattle.bvh_range.specs.declared.Span.{Span}
+use Rattle.bvh_range.specs.Range.{spanOf, extentOf, stops}
 use Rattle.bvh_split.specs.Part.{cutOf}
 
 pub record TreeOrder : Type 0 where

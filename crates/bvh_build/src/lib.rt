@@ -6,7 +6,7 @@ ghost use lib.ListN.{length, replicate};
 ghost use Rattle.words.specs.Lists.{listFrom};
 ghost use Rattle.plan.specs.Plan.{planOf};
 ghost use Rattle.bvh_boxes.specs.Boxes.{boxesOf};
-ghost use Rattle.bvh_split.specs.Inside.Table.{tableBoxes};
+ghost use Rattle.bvh_range.specs.Inside.Table.{tableBoxes};
 ghost use Rattle.bvh_build.specs.Build.{buildOf};
 ghost use Rattle.bvh_build.specs.Encode.{nodeWords, laid, low32};
 ghost use Rattle.bvh_build.specs.Tables.{builtOf};
@@ -90,10 +90,10 @@ fn build_recursive(
             low: false,
         };
     }
-    let s = bvh_split::span_of(os, t, kept);
+    let s = bvh_range::span_of(os, t, kept);
     let hull = s.hull;
     let centres = s.centres;
-    if bvh_split::stops(n, bvh_split::extent(centres)) {
+    if bvh_range::stops(n, bvh_range::extent(centres)) {
         put_node(nw, at, hull, narrow(start), narrow(n), 0);
         return Built {
             next: at + 1,
@@ -120,7 +120,7 @@ fn load_boxes(ws: &Words, fs: &Floats, t: &mut [f32])
     let n = bvh_rules::object_count(ws);
     let mut o: u32 = 0;
     while o < n {
-        bvh_split::put_box(t, o as usize, bvh_boxes::object_box(ws, fs, o));
+        bvh_range::put_box(t, o as usize, bvh_boxes::object_box(ws, fs, o));
         o += 1;
     }
 }

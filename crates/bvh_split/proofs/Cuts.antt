@@ -1,21 +1,18 @@
--- A range that is cut: the same objects in another order, and some on both sides. And its boxes: one for each object,
--- and the hull of all is the range's box. By induction on the steps and on the range. Assumes nothing.
+-- A range that is cut: the same objects in another order, and some on both sides. By induction on the steps. Assumes
+-- nothing.
 use Prim.Native.Nat.{ℕ, zero, suc, _+_, _/_, _≤_, _<_}
-use mathlib.Core.Path.{_≡_, refl, ap}
+use mathlib.Core.Path.{_≡_, refl}
 use mathlib.Core.Bool.{Bool, true, false, cond, _||_}
-use mathlib.Core.List.{List, [], _∷_, List·Permᴰ·trans, Permᴰ·refl}
+use mathlib.Core.List.{List, List·Permᴰ·trans, Permᴰ·refl}
 use native.Mathlib.Omega.{arith}
 use lib.Dec.{ltb, eqb}
 use lib.ListN.{length, getD, set}
 use borrow.Author.Tests.{ltb-true, eqb-false}
 use Rattle.sdf.specs.declared.Aabb.{Aabb}
-use Rattle.bvh_boxes.specs.Boxes.{nowhere, hullFrom, boxAt}
-use Rattle.bvh_split.specs.declared.Grid.{Grid}
-use Rattle.bvh_split.specs.declared.Span.{Span}
-use Rattle.bvh_split.specs.Range.{members, grow, spanFrom, spanOf}
-use Rattle.bvh_split.specs.Bins.{gridOf}
+use Rattle.bvh_bins.specs.declared.Grid.{Grid}
+use Rattle.bvh_bins.specs.Bins.{gridOf}
 use Rattle.bvh_split.specs.Part.{swapped, goesLeft, partFrom, parted, evened, splitOf, cutOf}
-use Rattle.bvh_split.proofs.Perms.{Perm, Each, Apart, perm-length, perm-all, perm-apart, exchange-perm}
+use Rattle.bvh_split.proofs.Perms.{Perm, Each, perm-length, perm-all, exchange-perm}
 
 pub swapped-perm : (i j : ℕ) (xs : List ℕ) → Perm xs (swapped i j xs)
 unfolding swapped
@@ -85,26 +82,3 @@ module _ (bs : List Aabb) (os : List ℕ) (c : Aabb) where
 
   pub cut-all : (P : ℕ → Type 0) → Each P os → Each P (cutOf bs os c .order)
   cut-all P h = perm-all P cut-once h
-
--- ---- the boxes of a range
-pub members-length : (bs : List Aabb) (os : List ℕ) → length (members bs os) ≡ length os
-unfolding members
-members-length bs [] = refl
-members-length bs (o ∷ os) = ap suc (members-length bs os)
-
-pub members-at
-    : (bs : List Aabb) (os : List ℕ) (i : ℕ) → i < length os
-    → boxAt (members bs os) i ≡ boxAt bs (getD os i 0)
-unfolding members
-members-at bs [] i h = absurd (omega arith)
-members-at bs (o ∷ os) zero h = refl
-members-at bs (o ∷ os) (suc i) h = members-at bs os i (omega arith)
-
-hull-from : (s : Span) (ms : List Aabb) → spanFrom s ms .hull ≡ hullFrom (s .hull) ms
-unfolding spanFrom grow hullFrom
-hull-from s [] = refl
-hull-from s (m ∷ ms) = hull-from (grow s m) ms
-
-pub span-hull : (bs : List Aabb) (os : List ℕ) → spanOf bs os .hull ≡ hullFrom nowhere (members bs os)
-unfolding spanOf
-span-hull bs os = hull-from _ (members bs os)

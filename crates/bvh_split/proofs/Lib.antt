@@ -1,7 +1,3 @@
-pub mod Whole
-pub mod Table
-pub mod Turns
 pub mod Placed
-pub mod Numbers
 pub mod Perms
 pub mod Cuts

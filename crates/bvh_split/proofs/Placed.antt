@@ -1,40 +1,21 @@
--- Bins noted at their places, and a part moved with no branch: what a turn of each loop leaves. By the cases of a place
--- and of a test. Assumes nothing.
-use Prim.Native.Nat.{ℕ, _+_, _-_, _*_, _/_, _%_, _≤_, _<_, min}
+-- A part moved with no branch: what a turn of the loop leaves, and what its end does. By the definitions, and the cases
+-- of a test. Assumes nothing.
+use Prim.Native.Nat.{ℕ, suc, _+_, _-_, _*_, _/_, _%_, _≤_, _<_}
 use mathlib.Core.Path.{_≡_, refl, sym, ap, _∙_}
 use mathlib.Core.Bool.{Bool, true, false, cond}
-use mathlib.Core.Logic.{⊎-elim}
 use mathlib.Core.List.{List}
 use native.Mathlib.Nat.{le-refl, mul-zero, mul-one, mul-le-mul}
 use native.Mathlib.Omega.{arith}
 use borrow.Author.Tests.{ltb-true, ltb-false}
-use mir.Syntax.{w32}
-use mir.Val.{Fits}
 use lib.Dec.{ltb}
 use lib.ListN.{length, getD, set}
-use lib.Seq.{getD-set-same, getD-set-other, set-getD}
-use lib.Ieee.{Float, ofBits}
+use lib.Seq.{getD-set-other, set-getD}
 use Rattle.sdf.specs.declared.Aabb.{Aabb}
-use Rattle.words.proofs.Laws.{less-or}
 use Rattle.bvh_boxes.specs.Boxes.{boxAt}
-use Rattle.bvh_split.specs.declared.Grid.{Grid}
-use Rattle.bvh_split.specs.Bins.{binOf}
-use Rattle.bvh_split.specs.Inside.Places.{fromFirst, toLast, Noted}
+use Rattle.bvh_bins.specs.declared.Grid.{Grid}
+use Rattle.bvh_bins.specs.Bins.{binOf}
+use Rattle.bvh_bins.proofs.Placed.{bin-few}
 use Rattle.bvh_split.specs.Part.{swapped, goesLeft, Parted, partFrom}
-use Rattle.bvh_split.proofs.Whole.{Cuts, cuts}
-use Rattle.bvh_split.proofs.Turns.{part-more}
-
--- ---- a bin's number
-pub cut-held : (x y z : Float) → y ≡ fromFirst x → z ≡ toLast y → Cuts x z
-unfolding ofBits
-cut-held x y z p q = rw (q, p) (cuts x)
-
-pub few-fit : (r a : ℕ) → r ≡ min a 11 → Fits w32 r
-few-fit r a e = record { fits = omega arith }
-
-bin-most : (g : Grid) (b : Aabb) → binOf g b ≤ 11
-unfolding binOf
-bin-most g b = omega arith
 
 -- ---- one where a bin lies below the split
 pub one-law
@@ -59,22 +40,36 @@ place-law i j one = (
   λ l e. let z : (i - j) * (one % 2) ≡ i - j = ap (λ (b : ℕ). (i - j) * (b % 2)) e ∙ mul-one (i - j) in omega arith,
 )
 
--- ---- one place more is noted
-pub noted-turn
-    : (bs : List Aabb) (g : Grid) (os places places' : List ℕ) (i k : ℕ) → length places ≡ 256
-    → places' ≡ set places i k → k ≡ binOf g (boxAt bs (getD os i 0)) → Noted bs g os places i
-    → Noted bs g os places' (i + 1)
-noted-turn bs g os places places' i k n p e h = λ j l q.
-    ap (λ (w : List ℕ). getD w j 0) p
-    ∙ ⊎-elim (λ s. getD-set-other places i j k 0 (λ z. omega arith) ∙ h j s q)
-    (λ s. let z : j ≡ i = omega arith in
-    ap (λ (m : ℕ). getD (set places i k) m 0) z
-    ∙ getD-set-same places i k 0 (omega arith)
-    ∙ e
-    ∙ ap (λ (m : ℕ). binOf g (boxAt bs (getD os m 0))) (sym z))
-    (less-or j i)
-
 -- ---- an object more is parted
+module _ (bs : List Aabb) (g : Grid) (split n i : ℕ) where
+  part-step : (mid : ℕ) (os : List ℕ) → i < n
+      → partFrom bs g split (n - i) i mid os
+      ≡ partFrom bs g split (n - (i + 1)) (i + 1)
+      (cond (goesLeft bs g split (getD os i 0)) (mid + 1) mid)
+      (cond (goesLeft bs g split (getD os i 0)) (swapped i mid os) os)
+  unfolding partFrom
+  part-step mid os h =
+      let e : n - i ≡ suc (n - (i + 1)) = omega arith in
+      ap (λ (k : ℕ). partFrom bs g split k i mid os) e
+
+  -- by the test's outcome
+  part-more
+      : (mid mid' : ℕ) (os os' : List ℕ) (b : Bool) (p : Parted) → i < n
+      → goesLeft bs g split (getD os i 0) ≡ b
+      → mid' ≡ cond b (mid + 1) mid → os' ≡ cond b (swapped i mid os) os → partFrom bs g split
+      (n - i) i mid os ≡ p
+      → partFrom bs g split (n - (i + 1)) (i + 1) mid' os' ≡ p
+  part-more mid mid' os os' b p h t m o q = rw (m, o, sym t) (sym (part-step mid os h) ∙ q)
+
+  pub part-none
+      : (mid : ℕ) (os : List ℕ) (p : Parted) → n ≤ i → partFrom bs g split (n - i) i mid os ≡ p
+      → (mid ≡ p .mid) × (os ≡ p .order)
+  unfolding partFrom
+  part-none mid os p h q =
+      let e : n - i ≡ 0 = omega arith in
+      let r = ap (λ (k : ℕ). partFrom bs g split k i mid os) (sym e) ∙ q in
+      (ap (λ (x : Parted). x .mid) r, ap (λ (x : Parted). x .order) r)
+
 swapped-self : (i : ℕ) (xs : List ℕ) → swapped i i xs ≡ xs
 unfolding swapped
 swapped-self i xs = go (ltb i (length xs))
@@ -102,9 +97,7 @@ module _ (bs : List Aabb) (g : Grid) (split : ℕ) where
       : (o p one : ℕ) → p ≡ binOf g (boxAt bs o) → (p ≤ 11 → one ≡ cond (ltb p split) 1 0)
       → one ≡ cond (goesLeft bs g split o) 1 0
   unfolding goesLeft
-  one-left o p one e h =
-      let m = bin-most g (boxAt bs o) in
-      h (omega arith) ∙ ap (λ (q : ℕ). cond (ltb q split) 1 0) e
+  one-left o p one e h = h (bin-few g (boxAt bs o) p e) ∙ ap (λ (q : ℕ). cond (ltb q split) 1 0) e
 
   pub part-by
       : (n i mid mid' one k p : ℕ) (os os' : List ℕ) (w : Parted) → i < n

@@ -1,4 +1,1 @@
-pub mod Range
-pub mod Bins
 pub mod Part
-pub mod Inside

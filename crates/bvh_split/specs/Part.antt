@@ -6,9 +6,9 @@ use lib.ListN.{length, getD, set}
 use lib.Dec.{ltb, eqb}
 use Rattle.sdf.specs.declared.Aabb.{Aabb}
 use Rattle.bvh_boxes.specs.Boxes.{boxAt}
-use Rattle.bvh_split.specs.declared.Grid.{Grid}
-use Rattle.bvh_split.specs.Range.{members}
-use Rattle.bvh_split.specs.Bins.{gridOf, binOf, noBins, binsFrom, splitBy}
+use Rattle.bvh_range.specs.Range.{members}
+use Rattle.bvh_bins.specs.declared.Grid.{Grid}
+use Rattle.bvh_bins.specs.Bins.{gridOf, binOf, noBins, binsFrom, splitBy}
 
 -- the elements at i and j exchanged, where both are there
 unfoldable pub swapped : ℕ → ℕ → List ℕ → List ℕ

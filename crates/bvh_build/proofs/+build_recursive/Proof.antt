@@ -18,10 +18,10 @@ use Rattle.bvh_build.proofs.less.Reads as less-reads
 use Rattle.bvh_build.proofs.narrow.Reads as narrow-reads
 use Rattle.bvh_build.proofs.put_node.Reads as put-node-reads
 use Rattle.refusals.proofs.both.Reads as both-reads
+use Rattle.bvh_range.proofs.extent.Reads as extent-reads
+use Rattle.bvh_range.proofs.span_of.Reads as span-of-reads
+use Rattle.bvh_range.proofs.stops.Reads as stops-reads
 use Rattle.bvh_split.proofs.cut.Reads as cut-reads
-use Rattle.bvh_split.proofs.extent.Reads as extent-reads
-use Rattle.bvh_split.proofs.span_of.Reads as span-of-reads
-use Rattle.bvh_split.proofs.stops.Reads as stops-reads
 use Rattle.std.proofs.num.wrapping_add_usize.Reads as wrapping-add-usize-reads
 use Rattle.bvh_build.proofs.+build_recursive.{statement}
 use Rattle.bvh_build.proofs.+build_recursive.Tie.{close}

@@ -7,12 +7,12 @@ use native.Mathlib.Nat.{sub-zero, le-refl}
 use native.Mathlib.Omega.{arith}
 use lib.ListN.{length, getD}
 use Rattle.bvh_boxes.specs.Boxes.{boxAt}
-use Rattle.bvh_split.specs.Bins.{binOf}
-use Rattle.bvh_split.specs.Inside.Table.{tableBoxes}
-use Rattle.bvh_split.specs.Inside.Places.{Noted}
+use Rattle.bvh_range.specs.Inside.Table.{tableBoxes}
+use Rattle.bvh_bins.specs.Bins.{binOf}
+use Rattle.bvh_bins.specs.Inside.Places.{Noted}
 use Rattle.bvh_split.specs.Part.{partFrom, parted}
 use Rattle.bvh_split.proofs.Cuts.{length-swapped}
-use Rattle.bvh_split.proofs.Turns.{part-none}
+use Rattle.bvh_split.proofs.Placed.{part-none}
 use Rattle.bvh_split.proofs.Placed.{swapped-past, part-by}
 use Rattle.bvh_split.proofs.partition.Statement.{statement}
 use Rattle.bvh_split.proofs.partition.Tie as tie

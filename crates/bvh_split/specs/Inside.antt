@@ -1,4 +1,0 @@
-pub mod Table
-pub mod Sums
-pub mod Places
-pub mod Numbers
