@@ -9,7 +9,7 @@ use lib.Ieee.{Float}
 use Rattle.plan.specs.Sections.{materials, lights, argsRow}
 use Rattle.plan.specs.Records.{materialAt, lightAt}
 use Rattle.plan.specs.Plan.{countOf, planOf}
-use Rattle.plan_test.specs.Numbers.{materialNumber, lightNumber}
+use Rattle.record_test.specs.Numbers.{materialNumber, lightNumber}
 use Rattle.plan_test.specs.Tests.{solidsOf}
 use Rattle.plan_entry.specs.declared.Added.{Added}
 use Rattle.plan_entry.specs.declared.Added.the-variants.{Refused, Done}

@@ -13,7 +13,7 @@ use Rattle.plan.specs.declared.Material.{Material}
 use Rattle.plan.specs.declared.QuadLight.{QuadLight}
 use Rattle.plan.specs.Sections.{lights}
 use Rattle.plan.specs.Plan.{planOf}
-use Rattle.plan_test.specs.Numbers.{materialNumber}
+use Rattle.record_test.specs.Numbers.{materialNumber}
 use Rattle.plan_test.specs.Tests.{litNumber}
 use Rattle.bvh_search.specs.Field.{fieldBy}
 use Rattle.shade.specs.declared.Lit.{Lit}

@@ -64,7 +64,7 @@ pub fn direct(before: u32, tree: u32, ws: &Words, fs: &Floats) -> Reply
     let sited = refusals::both(site_ok(p, n), refusals::within(v, refusals::STEEP));
     let given = refusals::lower(
         refusals::unless(refusals::BAD_NUMBER, sited),
-        plan_test::material_number(m),
+        record_test::material_number(m),
     );
     let number = lit_ask(before, given, tree, p, ws, fs);
     if number == 0 {

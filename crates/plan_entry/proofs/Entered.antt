@@ -19,9 +19,10 @@ use Rattle.plan.specs.Plan.{Piece, cutsBy, pieceAt, piecesFrom, countOf, planOf
 use Rattle.plan.specs.Plan.{withLight, withObject}
 use Rattle.plan.proofs.Rows.{Alike, Kept, kept, material-same, light-same, materials-kept, lights-kept, pieces-kept}
 use Rattle.plan_test.specs.declared.Solids.{Solids}
-use Rattle.plan_test.specs.Numbers.{materialNumber, lightNumber}
+use Rattle.record_test.specs.Numbers.{materialNumber, lightNumber}
 use Rattle.plan_test.specs.Tests.{cuttersOf, solidsOf}
-use Rattle.plan_test.specs.Exact.{CutterOk, CountsOk, SoundSolids}
+use Rattle.record_test.specs.Exact.{CutterOk}
+use Rattle.plan_test.specs.Exact.{CountsOk, SoundSolids}
 use Rattle.plan_test.proofs.Apart.{objects-reach, planes-reach}
 use Rattle.plan_test.proofs.Exact.{counts-exact, solids-exact, solids-used}
 use Rattle.plan_entry.specs.Entry.{argWord, argCuts, pieceNumber, recordNumber, pieceWords, cutterWords}

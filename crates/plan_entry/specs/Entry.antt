@@ -15,7 +15,7 @@ use Rattle.plan.specs.Sections.{Section, materials, planes, lights, objects, cu
 use Rattle.plan.specs.Records.{wordOf, materialAt, lightAt, headAt}
 use Rattle.plan.specs.Plan.{cutsBy, countOf, planOf, planIn}
 use Rattle.plan_test.specs.declared.Solids.{Solids}
-use Rattle.plan_test.specs.Numbers.{materialNumber, lightNumber, ownNumber, cutsNumber}
+use Rattle.record_test.specs.Numbers.{materialNumber, lightNumber, ownNumber, cutsNumber}
 use Rattle.plan_test.specs.Tests.{countsOk, solidsOf}
 use Rattle.plan_entry.specs.declared.Added.{Added}
 use Rattle.plan_entry.specs.declared.Added.the-variants.{Refused, Done}

@@ -44,7 +44,7 @@ fn arg_cuts_number(ws: &Words, fs: &Floats, bytes: usize, n: u32) -> u32
 {
     if n <= plan::CUTS {
         if 64 + 64 * (n as usize) <= bytes {
-            return plan_test::cuts_number(ws, fs, plan::ARGS_ROW, 1, n);
+            return record_test::cuts_number(ws, fs, plan::ARGS_ROW, 1, n);
         }
     }
     refusals::NO_ROOM
@@ -55,7 +55,7 @@ fn args_number(among: bool, ws: &Words, fs: &Floats, bytes: usize) -> u32
 {
     let h = plan::head_at(ws, fs, plan::ARGS_ROW as usize);
     refusals::lower(
-        plan_test::own_number(among, ws[plan::COUNT_MATERIALS], h),
+        record_test::own_number(among, ws[plan::COUNT_MATERIALS], h),
         arg_cuts_number(ws, fs, bytes, h.cutters),
     )
 }
@@ -359,7 +359,7 @@ pub fn add_material(before: u32, ws: &mut Words, fs: &Floats) -> Added
     ensures { λ r. ⌜ AddsMaterial before (now (ws .entry)) (now (fs .entry)) r (now (ws .exit)) ⌝ }
 {
     let count = plan::word_in(ws, plan::COUNT_MATERIALS);
-    let own = plan_test::material_number(plan::material_at(fs, plan::ARGS_ROW as usize));
+    let own = record_test::material_number(plan::material_at(fs, plan::ARGS_ROW as usize));
     let no = record_number(before, own, ws, count, plan::MATERIALS);
     if no == 0 {
         with_material(ws, count);
@@ -372,7 +372,7 @@ pub fn add_light(before: u32, ws: &mut Words, fs: &Floats) -> Added
     ensures { λ r. ⌜ AddsLight before (now (ws .entry)) (now (fs .entry)) r (now (ws .exit)) ⌝ }
 {
     let count = plan::word_in(ws, plan::COUNT_LIGHTS);
-    let own = plan_test::light_number(plan::light_at(fs, plan::ARGS_ROW as usize));
+    let own = record_test::light_number(plan::light_at(fs, plan::ARGS_ROW as usize));
     let no = record_number(before, own, ws, count, plan::LIGHTS);
     if no == 0 {
         with_light(ws, count);

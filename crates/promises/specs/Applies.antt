@@ -19,7 +19,7 @@ use Rattle.refusals.specs.Prims.{primNumber}
 use Rattle.plan.specs.Sections.{Section, argsRow, cutterPlaces, materials, lights}
 use Rattle.plan.specs.Records.{materialAt, lightAt, headAt}
 use Rattle.plan.specs.Plan.{Plan, countOf, planOf, seen, planIn}
-use Rattle.plan_test.specs.Numbers.{materialNumber, lightNumber, ownNumber}
+use Rattle.record_test.specs.Numbers.{materialNumber, lightNumber, ownNumber}
 use Rattle.plan_test.specs.Tests.{countsOk, objectsNumber, solidsOf, litNumber}
 use Rattle.plan_entry.specs.Entry.{argCuts, argCutsNumber, sectionOf}
 use Rattle.bvh_build.specs.Tables.{lowEnough}

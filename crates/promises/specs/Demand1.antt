@@ -17,7 +17,8 @@ use Rattle.plan.specs.declared.Material.{Material}
 use Rattle.plan.specs.Records.{materialAt, lightAt, headAt}
 use Rattle.plan.specs.Plan.{Plan, Piece, cutsBy, seen, planIn, withMaterial, withLight}
 use Rattle.plan_test.specs.Tests.{countsOk, cuttersOf, objectsNumber, solidsOf, litNumber}
-use Rattle.plan_test.specs.Exact.{CutterOk, HeadOk, LightOk, CountsOk, SoundSolids, SoundLit}
+use Rattle.record_test.specs.Exact.{CutterOk, HeadOk, LightOk}
+use Rattle.plan_test.specs.Exact.{CountsOk, SoundSolids, SoundLit}
 use Rattle.plan_entry.specs.Entry.{argCuts, sectionOf, newPlace}
 use Rattle.plan_entry.specs.After.{givenPiece, withOne}
 use Rattle.reply.specs.Reply.{oneWord, refusedReply}

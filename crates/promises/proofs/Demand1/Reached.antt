@@ -18,7 +18,8 @@ use Rattle.plan.specs.Records.{wordOf, floatOf, materialAt, lightAt}
 use Rattle.plan.specs.Plan.{Plan, cutsBy, countOf, seen, planIn, withMaterial, withLight}
 use Rattle.plan.proofs.Rows.{float-of, moved, light-same}
 use Rattle.plan_test.specs.Tests.{cuttersOf}
-use Rattle.plan_test.specs.Exact.{PieceOk, PlaceIs, LightOk, SoundLit}
+use Rattle.record_test.specs.Exact.{LightOk}
+use Rattle.plan_test.specs.Exact.{PieceOk, PlaceIs, SoundLit}
 use Rattle.plan_entry.specs.Entry.{argCuts, sectionOf}
 use Rattle.plan_entry.specs.After.{givenPiece, withOne}
 use Rattle.plan_entry.proofs.Accepts.{accepted}

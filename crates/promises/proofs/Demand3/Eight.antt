@@ -20,8 +20,8 @@ use Rattle.plan.specs.declared.Material.{Material}
 use Rattle.plan.specs.declared.QuadLight.{QuadLight}
 use Rattle.plan.specs.Sections.{nodesWords, cutterPlaces}
 use Rattle.plan.specs.Plan.{Piece, Plan, planOf, seen}
-use Rattle.plan_test.specs.Numbers.{materialNumber, lightNumber, cutterNumber, cutsNumber, ownNumber, pieceOwn}
-use Rattle.plan_test.specs.Numbers.{pieceCuts}
+use Rattle.record_test.specs.Numbers.{materialNumber, lightNumber, cutterNumber, cutsNumber, ownNumber, pieceOwn}
+use Rattle.record_test.specs.Numbers.{pieceCuts}
 use Rattle.plan_test.specs.declared.Solids.{Solids}
 use Rattle.plan_test.specs.Tests.{countsOk, tallyOf, objectsTally, objectsNumber, solidsPlaced, solidsOf, litNumber}
 use Rattle.plan_test.specs.Exact.{SoundObjects}
