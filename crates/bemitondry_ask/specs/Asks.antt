@@ -14,7 +14,7 @@ use Rattle.plan.specs.Sections.{argsRow}
 use Rattle.plan.specs.Records.{floatOf, vecOf}
 use Rattle.plan.specs.Plan.{planOf}
 use Rattle.plan_test.specs.Tests.{objectsNumber, solidsOf}
-use Rattle.plan_entry.specs.Entry.{argWord}
+use Rattle.plan_write.specs.Written.{argWord}
 use Rattle.bvh_boxes.specs.Boxes.{boxesOf}
 use Rattle.bvh_rules.specs.Nodes.{nodesOf, orderOf}
 use Rattle.bvh_rules.specs.Check.{standingNumber}

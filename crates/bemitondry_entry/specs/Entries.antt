@@ -13,8 +13,9 @@ use Rattle.record_test.specs.Numbers.{materialNumber, lightNumber}
 use Rattle.plan_test.specs.Tests.{solidsOf}
 use Rattle.plan_entry.specs.declared.Added.{Added}
 use Rattle.plan_entry.specs.declared.Added.the-variants.{Refused, Done}
-use Rattle.plan_entry.specs.Entry.{argCuts, sectionOf, pieceNumber, recordNumber, newPlace}
-use Rattle.plan_entry.specs.Entry.{withPiece, withMaterialWords, withLightWords}
+use Rattle.plan_write.specs.Written.{argCuts, sectionOf}
+use Rattle.plan_entry.specs.Entry.{pieceNumber, recordNumber, newPlace}
+use Rattle.plan_write.specs.Written.{withPiece, withMaterialWords, withLightWords}
 use Rattle.reply.specs.declared.Reply.{Reply}
 use Rattle.reply.specs.Reply.{refusedReply, oneWord, replyOf}
 

@@ -15,7 +15,7 @@ use Rattle.record_test.specs.Exact.{LightOk}
 use Rattle.plan_test.specs.Exact.{PieceOk, PlaceIs, PiecesOk, SoundSolids, SoundLit}
 use Rattle.plan_test.proofs.Lists.{cutters-snoc}
 use Rattle.plan_test.proofs.Apart.{places-snoc}
-use Rattle.plan_entry.specs.Entry.{sectionOf}
+use Rattle.plan_write.specs.Written.{sectionOf}
 use Rattle.plan_entry.specs.After.{withOne}
 
 abbrev pub listOf : Bool → Plan → List Piece

@@ -21,7 +21,8 @@ use Rattle.plan.specs.Records.{materialAt, lightAt, headAt}
 use Rattle.plan.specs.Plan.{Plan, countOf, planOf, seen, planIn}
 use Rattle.record_test.specs.Numbers.{materialNumber, lightNumber, ownNumber}
 use Rattle.plan_test.specs.Tests.{countsOk, objectsNumber, solidsOf, litNumber}
-use Rattle.plan_entry.specs.Entry.{argCuts, argCutsNumber, sectionOf}
+use Rattle.plan_write.specs.Written.{argCuts, sectionOf}
+use Rattle.plan_entry.specs.Entry.{argCutsNumber}
 use Rattle.bvh_build.specs.Tables.{lowEnough}
 use Rattle.panel.specs.Panels.{panelsNumber}
 use Rattle.reply.specs.declared.Reply.{Reply}

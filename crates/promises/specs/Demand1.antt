@@ -19,7 +19,8 @@ use Rattle.plan.specs.Plan.{Plan, Piece, cutsBy, seen, planIn, withMaterial, wi
 use Rattle.plan_test.specs.Tests.{countsOk, cuttersOf, objectsNumber, solidsOf, litNumber}
 use Rattle.record_test.specs.Exact.{CutterOk, HeadOk, LightOk}
 use Rattle.plan_test.specs.Exact.{CountsOk, SoundSolids, SoundLit}
-use Rattle.plan_entry.specs.Entry.{argCuts, sectionOf, newPlace}
+use Rattle.plan_write.specs.Written.{argCuts, sectionOf}
+use Rattle.plan_entry.specs.Entry.{newPlace}
 use Rattle.plan_entry.specs.After.{givenPiece, withOne}
 use Rattle.reply.specs.Reply.{oneWord, refusedReply}
 use Rattle.wire.specs.Lent.{nodesBytes, orderBytes, outBytes, planTable}

@@ -9,7 +9,7 @@ use lib.Dec.{eqb}
 use Rattle.words.specs.Words.{withWords}
 use Rattle.plan.specs.Sections.{planWords, materials, lights, planes, objects}
 use Rattle.plan.specs.Plan.{countOf, seen}
-use Rattle.plan_entry.specs.Entry.{withMaterialWords, withLightWords}
+use Rattle.plan_write.specs.Written.{withMaterialWords, withLightWords}
 use Rattle.reply.specs.Reply.{oneWord, replyOf}
 use Rattle.wire.specs.Lent.{planTable, nodesBytes, orderBytes}
 use Rattle.wire.specs.Sent.{planBefore, treeTablesBefore, cleared, Sent}

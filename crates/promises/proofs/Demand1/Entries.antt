@@ -11,7 +11,8 @@ use Rattle.plan.specs.Sections.{planWords, argsRow}
 use Rattle.plan.specs.Records.{materialAt, lightAt}
 use Rattle.plan.specs.Plan.{Plan, seen, planIn, withMaterial, withLight}
 use Rattle.plan_test.specs.Tests.{solidsOf}
-use Rattle.plan_entry.specs.Entry.{argCuts, newPlace, withMaterialWords, withLightWords}
+use Rattle.plan_write.specs.Written.{argCuts, withMaterialWords, withLightWords}
+use Rattle.plan_entry.specs.Entry.{newPlace}
 use Rattle.plan_entry.specs.After as made
 use Rattle.plan_entry.specs.After.{withOne, Made}
 use Rattle.plan_entry.proofs.Entered.{piece-entered, material-entered, light-entered}

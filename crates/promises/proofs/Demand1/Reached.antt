@@ -20,7 +20,7 @@ use Rattle.plan.proofs.Rows.{float-of, moved, light-same}
 use Rattle.plan_test.specs.Tests.{cuttersOf}
 use Rattle.record_test.specs.Exact.{LightOk}
 use Rattle.plan_test.specs.Exact.{PieceOk, PlaceIs, SoundLit}
-use Rattle.plan_entry.specs.Entry.{argCuts, sectionOf}
+use Rattle.plan_write.specs.Written.{argCuts, sectionOf}
 use Rattle.plan_entry.specs.After.{givenPiece, withOne}
 use Rattle.plan_entry.proofs.Accepts.{accepted}
 use Rattle.plan_entry.proofs.Entered.{placeFor, Placed, placed-for}

@@ -1,7 +1,7 @@
 -- `viewer_add_light` meets its contract: what the entry leaves is stored and sent. Assumes nothing.
 use Rattle.plan.specs.Sections.{lights}
 use Rattle.plan.specs.Plan.{countOf}
-use Rattle.plan_entry.specs.Entry.{withLightWords}
+use Rattle.plan_write.specs.Written.{withLightWords}
 use Rattle.bemitondry_entry.specs.Entries.{lightEntry}
 use Rattle.viewer.proofs.Leaves.{entry-sent}
 use borrow.Author.Needs.{needs}

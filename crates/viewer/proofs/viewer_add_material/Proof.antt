@@ -1,7 +1,7 @@
 -- `viewer_add_material` meets its contract: what the entry leaves is stored and sent. Assumes nothing.
 use Rattle.plan.specs.Sections.{materials}
 use Rattle.plan.specs.Plan.{countOf}
-use Rattle.plan_entry.specs.Entry.{withMaterialWords}
+use Rattle.plan_write.specs.Written.{withMaterialWords}
 use Rattle.bemitondry_entry.specs.Entries.{materialEntry}
 use Rattle.viewer.proofs.Leaves.{entry-sent}
 use borrow.Author.Needs.{needs}
