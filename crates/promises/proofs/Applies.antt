@@ -33,8 +33,8 @@ use Rattle.bemitondry_light.specs.Light.{litAsk, litReply, directReply, directD
 use Rattle.viewer.specs.Calls.{rootLent, acosLent, primDistLent, primBoundsLent, givenShape, formFactorLent}
 use Rattle.viewer.specs.Calls.{fresnelLent, f0Lent, diffuseAlbedoLent, emitterLent, askReply}
 use Rattle.bemitondry_tree.specs.Trees.{buildNumber, offeredTree, offerNumber}
-use Rattle.viewer.specs.Entries.{MaterialSent, LightSent, PlaneSent, ObjectSent}
-use Rattle.viewer.specs.Trees.{buildPlan, BuildSent, offerTable, OfferSent}
+use Rattle.wire_entry.specs.Entries.{MaterialSent, LightSent, PlaneSent, ObjectSent}
+use Rattle.wire_tree.specs.Trees.{buildPlan, BuildSent, offerTable, OfferSent}
 use Rattle.promises.specs.Lowest.{lowestIn}
 use Rattle.promises.specs.Applies.{ofTree, ArgsCall, bounded, argsCalls, argsApply, emitterApply, AskCall}
 use Rattle.promises.specs.Applies.{askCalls, askApply, materialApply, lightApply, planeApply, objectApply}

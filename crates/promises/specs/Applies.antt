@@ -36,7 +36,7 @@ use Rattle.bemitondry_ask.specs.Marches.{rayGiven, traceReply, shadowReply}
 use Rattle.bemitondry_light.specs.Light.{siteOk, panels, argMaterial, directReply, directDiffuseReply}
 use Rattle.viewer.specs.Calls.{rootLent, acosLent, primDistLent, primBoundsLent, givenShape, givenQuad, givenMaterial}
 use Rattle.viewer.specs.Calls.{formFactorLent, fresnelLent, f0Lent, diffuseAlbedoLent, Ask}
-use Rattle.viewer.specs.Trees.{buildPlan, offerTable}
+use Rattle.wire_tree.specs.Trees.{buildPlan, offerTable}
 
 -- ---- by lengths; out is the length of `out`
 abbrev pub ofArgs : ℕ → List ℕ → ℕ → List ℕ

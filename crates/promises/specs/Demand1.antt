@@ -25,7 +25,7 @@ use Rattle.plan_entry.specs.After.{givenPiece, withOne}
 use Rattle.reply.specs.Reply.{oneWord, refusedReply}
 use Rattle.wire.specs.Lent.{nodesBytes, orderBytes, outBytes, planTable}
 use Rattle.wire.specs.Sent.{clearedFront}
-use Rattle.viewer.specs.Entries.{MaterialSent, LightSent, PlaneSent, ObjectSent}
+use Rattle.wire_entry.specs.Entries.{MaterialSent, LightSent, PlaneSent, ObjectSent}
 use Rattle.promises.specs.Bytes.{planWith, planAt, FullPlan, FullTree}
 
 -- ---- what an entry takes

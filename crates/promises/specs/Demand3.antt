@@ -34,7 +34,7 @@ use Rattle.bemitondry_light.specs.Light.{directReply, directDiffuseReply}
 use Rattle.wire.specs.Lent.{outBytes, askTable}
 use Rattle.wire.specs.Sent.{Sent}
 use Rattle.viewer.specs.Calls.{Ask, askReply}
-use Rattle.viewer.specs.Trees.{BuildSent, OfferSent}
+use Rattle.wire_tree.specs.Trees.{BuildSent, OfferSent}
 use Rattle.promises.specs.Bytes.{planAt, objectCount, HoldsTree, AcceptedTree, TreeRules, FullPlan, FullTree}
 
 -- ---- build and offer, which send n and leave nodes′, order′ and out′

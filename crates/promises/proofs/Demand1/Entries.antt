@@ -19,7 +19,7 @@ use Rattle.plan_entry.proofs.Entered.{piece-entered, material-entered, light-en
 use Rattle.wire.specs.Lent.{planTable}
 use Rattle.wire.specs.Sent.{planBefore, cleared}
 use Rattle.bemitondry_entry.specs.Entries.{materialEntry, lightEntry, pieceEntry, pieceLeft}
-use Rattle.viewer.specs.Entries.{EntrySent, objectBefore}
+use Rattle.wire_entry.specs.Entries.{EntrySent, objectBefore}
 use Rattle.promises.specs.Bytes.{FullPlan, FullTree}
 use Rattle.promises.specs.Demand1.{Lent, MaterialTaken, LightTaken, PieceTaken, Enters, entering, Replied}
 use Rattle.promises.specs.Demand1.{Dropped}

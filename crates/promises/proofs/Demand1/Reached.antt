@@ -28,7 +28,7 @@ use Rattle.reply.specs.Reply.{oneWord, replyOf}
 use Rattle.wire.specs.Lent.{planBytes, nodesBytes, orderBytes, outBytes, planTable}
 use Rattle.wire.specs.Sent.{planBefore}
 use Rattle.bemitondry_entry.specs.Entries.{pieceEntry, pieceLeft}
-use Rattle.viewer.specs.Entries.{EntrySent, objectBefore}
+use Rattle.wire_entry.specs.Entries.{EntrySent, objectBefore}
 use Rattle.promises.specs.Bytes.{planAt, FullPlan, FullTree}
 use Rattle.promises.specs.Demand1.{Lent, MaterialOk, MaterialTaken, LightTaken, listOf, PieceTaken, entering}
 use Rattle.promises.specs.Demand1.{Run, start, material, light, plane, object, emptyPlan}

@@ -1,13 +1,13 @@
--- `viewer_add_plane` meets its contract: what the entry leaves is stored and sent. Assumes nothing.
+-- `wire_entry::add_plane` meets its contract: what the entry leaves is stored and sent. Assumes nothing.
 use mathlib.Core.Bool.{true}
 use lib.ListN.{length}
 use Rattle.plan.specs.Sections.{planes}
 use Rattle.plan.specs.Plan.{countOf}
 use Rattle.bemitondry_entry.specs.Entries.{pieceEntry, pieceLeft}
-use Rattle.viewer.proofs.Leaves.{entry-sent}
+use Rattle.wire_entry.proofs.Leaves.{entry-sent}
 use borrow.Author.Needs.{needs}
-use Rattle.viewer.proofs.viewer_add_plane.Statement.{statement}
-use Rattle.viewer.proofs.viewer_add_plane.Tie as tie
+use Rattle.wire_entry.proofs.add_plane.Statement.{statement}
+use Rattle.wire_entry.proofs.add_plane.Tie as tie
 
 returns : tie.Need-returns
 returns c =
@@ -20,8 +20,8 @@ returns c =
     (l .before .load-plan .ensures) (l .plan-before .ensures) (a .add-piece .ensures) (p .store-plan .ensures)
     (s .send .ensures)
 
-pub viewer-add-plane-spec : {M : Type 1} → statement M
-viewer-add-plane-spec =
+pub add-plane-spec : {M : Type 1} → statement M
+add-plane-spec =
     tie.close
     (tie.spec
     (λ c κs. search needs) (λ c κs. search needs) (λ c κs. search needs) (λ c κs. search needs)

@@ -1,8 +1,8 @@
--- `viewer::build_stores` meets its contract: each return is a case of `buildStores`. Assumes nothing.
+-- `wire_tree::build_stores` meets its contract: each return is a case of `buildStores`. Assumes nothing.
 use borrow.Author.Tests.{eq-eqb, ne-eqb}
-use Rattle.viewer.specs.Trees.{buildStores}
-use Rattle.viewer.proofs.build_stores.Statement.{statement}
-use Rattle.viewer.proofs.build_stores.Tie as tie
+use Rattle.wire_tree.specs.Trees.{buildStores}
+use Rattle.wire_tree.proofs.build_stores.Statement.{statement}
+use Rattle.wire_tree.proofs.build_stores.Tie as tie
 
 returns : tie.Need-returns
 unfolding buildStores

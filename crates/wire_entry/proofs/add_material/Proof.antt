@@ -1,12 +1,12 @@
--- `viewer_add_material` meets its contract: what the entry leaves is stored and sent. Assumes nothing.
+-- `wire_entry::add_material` meets its contract: what the entry leaves is stored and sent. Assumes nothing.
 use Rattle.plan.specs.Sections.{materials}
 use Rattle.plan.specs.Plan.{countOf}
 use Rattle.plan_write.specs.Written.{withMaterialWords}
 use Rattle.bemitondry_entry.specs.Entries.{materialEntry}
-use Rattle.viewer.proofs.Leaves.{entry-sent}
+use Rattle.wire_entry.proofs.Leaves.{entry-sent}
 use borrow.Author.Needs.{needs}
-use Rattle.viewer.proofs.viewer_add_material.Statement.{statement}
-use Rattle.viewer.proofs.viewer_add_material.Tie as tie
+use Rattle.wire_entry.proofs.add_material.Statement.{statement}
+use Rattle.wire_entry.proofs.add_material.Tie as tie
 
 returns : tie.Need-returns
 returns c =
@@ -18,8 +18,8 @@ returns c =
     (l .before .load-plan .ensures) (l .plan-before .ensures) (a .add-material .ensures) (p .store-plan .ensures)
     (s .send .ensures)
 
-pub viewer-add-material-spec : {M : Type 1} → statement M
-viewer-add-material-spec =
+pub add-material-spec : {M : Type 1} → statement M
+add-material-spec =
     tie.close
     (tie.spec
     (λ c κs. search needs) (λ c κs. search needs) (λ c κs. search needs) (λ c κs. search needs)

@@ -1,12 +1,12 @@
--- `viewer_add_light` meets its contract: what the entry leaves is stored and sent. Assumes nothing.
+-- `wire_entry::add_light` meets its contract: what the entry leaves is stored and sent. Assumes nothing.
 use Rattle.plan.specs.Sections.{lights}
 use Rattle.plan.specs.Plan.{countOf}
 use Rattle.plan_write.specs.Written.{withLightWords}
 use Rattle.bemitondry_entry.specs.Entries.{lightEntry}
-use Rattle.viewer.proofs.Leaves.{entry-sent}
+use Rattle.wire_entry.proofs.Leaves.{entry-sent}
 use borrow.Author.Needs.{needs}
-use Rattle.viewer.proofs.viewer_add_light.Statement.{statement}
-use Rattle.viewer.proofs.viewer_add_light.Tie as tie
+use Rattle.wire_entry.proofs.add_light.Statement.{statement}
+use Rattle.wire_entry.proofs.add_light.Tie as tie
 
 returns : tie.Need-returns
 returns c =
@@ -18,8 +18,8 @@ returns c =
     (l .before .load-plan .ensures) (l .plan-before .ensures) (a .add-light .ensures) (p .store-plan .ensures)
     (s .send .ensures)
 
-pub viewer-add-light-spec : {M : Type 1} → statement M
-viewer-add-light-spec =
+pub add-light-spec : {M : Type 1} → statement M
+add-light-spec =
     tie.close
     (tie.spec
     (λ c κs. search needs) (λ c κs. search needs) (λ c κs. search needs) (λ c κs. search needs)

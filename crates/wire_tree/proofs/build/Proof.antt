@@ -1,12 +1,12 @@
--- `viewer_build` meets its contract: both tables are stored, and the reply sent. Assumes nothing.
+-- `wire_tree::build` meets its contract: both tables are stored, and the reply sent. Assumes nothing.
 use Prim.Native.Nat.{ℕ}
 use mathlib.Core.Path.{_∙_, ap}
 use mathlib.Core.List.{List}
 use Rattle.wire.specs.Lent.{planTable}
-use Rattle.viewer.proofs.Leaves.{build-sent}
+use Rattle.wire_tree.proofs.Leaves.{build-sent}
 use borrow.Author.Needs.{needs}
-use Rattle.viewer.proofs.viewer_build.Statement.{statement}
-use Rattle.viewer.proofs.viewer_build.Tie as tie
+use Rattle.wire_tree.proofs.build.Statement.{statement}
+use Rattle.wire_tree.proofs.build.Tie as tie
 
 returns : tie.Need-returns
 returns c =
@@ -23,8 +23,8 @@ returns c =
     (b .before .build .ensures) (b .build-stores .ensures) (n .store-nodes .ensures) (o .store-order .ensures)
     (s .send .ensures)
 
-pub viewer-build-spec : {M : Type 1} → statement M
-viewer-build-spec =
+pub build-spec : {M : Type 1} → statement M
+build-spec =
     tie.close
     (tie.spec
     (λ c κs. search needs) (λ c κs. search needs) (λ c κs. search needs) (λ c κs. search needs)

@@ -1,14 +1,14 @@
--- `viewer_add_object` meets its contract: what the entry leaves is stored and sent, and the tree's tables become zero.
+-- `wire_entry::add_object` meets its contract: what the entry leaves is stored and sent, and the tree's tables become zero.
 -- Assumes nothing.
 use mathlib.Core.Bool.{false}
 use lib.ListN.{length}
 use Rattle.plan.specs.Sections.{objects}
 use Rattle.plan.specs.Plan.{countOf}
 use Rattle.bemitondry_entry.specs.Entries.{pieceEntry, pieceLeft}
-use Rattle.viewer.proofs.Leaves.{entry-sent, entry-clears}
+use Rattle.wire_entry.proofs.Leaves.{entry-sent, entry-clears}
 use borrow.Author.Needs.{needs}
-use Rattle.viewer.proofs.viewer_add_object.Statement.{statement}
-use Rattle.viewer.proofs.viewer_add_object.Tie as tie
+use Rattle.wire_entry.proofs.add_object.Statement.{statement}
+use Rattle.wire_entry.proofs.add_object.Tie as tie
 
 returns : tie.Need-returns
 returns c =
@@ -35,8 +35,8 @@ returns c =
           (o .clear2 .ensures);
     }
 
-pub viewer-add-object-spec : {M : Type 1} → statement M
-viewer-add-object-spec =
+pub add-object-spec : {M : Type 1} → statement M
+add-object-spec =
     tie.close
     (tie.spec
     (λ c κs. search needs) (λ c κs. search needs) (λ c κs. search needs) (λ c κs. search needs)

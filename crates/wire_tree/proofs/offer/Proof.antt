@@ -1,12 +1,12 @@
--- `viewer_offer` meets its contract: an accepted tree is stored, and the reply sent. Assumes nothing.
+-- `wire_tree::offer` meets its contract: an accepted tree is stored, and the reply sent. Assumes nothing.
 use Prim.Native.Nat.{ℕ}
 use mathlib.Core.Path.{_∙_, ap}
 use mathlib.Core.List.{List}
 use Rattle.wire.specs.Lent.{askTable}
-use Rattle.viewer.proofs.Leaves.{lower-as, offer-sent}
+use Rattle.wire_tree.proofs.Leaves.{lower-as, offer-sent}
 use borrow.Author.Needs.{needs}
-use Rattle.viewer.proofs.viewer_offer.Statement.{statement}
-use Rattle.viewer.proofs.viewer_offer.Tie as tie
+use Rattle.wire_tree.proofs.offer.Statement.{statement}
+use Rattle.wire_tree.proofs.offer.Tie as tie
 
 returns : tie.Need-returns
 returns c =
@@ -24,8 +24,8 @@ returns c =
     offer-sent _ _ _ _ _ _ _ _ _ _ _ _ _ _ _ (t .0 ∙ none, t .1) number (b .offer .ensures) (n .store-nodes .ensures)
     (o .store-order .ensures) (s .send .ensures)
 
-pub viewer-offer-spec : {M : Type 1} → statement M
-viewer-offer-spec =
+pub offer-spec : {M : Type 1} → statement M
+offer-spec =
     tie.close
     (tie.spec
     (λ c κs. search needs) (λ c κs. search needs) (λ c κs. search needs) (λ c κs. search needs)
