@@ -16,7 +16,7 @@ pub fn tree_number(tree: u32, ws: &Words, fs: &Floats) -> u32
     ensures { λ r. ⌜ r ≡ treeNumber tree (now (ws .entry)) (now (fs .entry)) ⌝ }
 {
     if tree == 1 {
-        return bvh_rules::standing_number(ws, fs);
+        return bvh_check::standing_number(ws, fs);
     }
     0
 }
