@@ -21,8 +21,9 @@ use Rattle.bvh_build.specs.Tables.{lowEnough}
 use Rattle.emitter.specs.declared.Emitted.{Emitted}
 use Rattle.emitter.specs.declared.Emitted.the-variants.{Nothing, Shows}
 use Rattle.reply.specs.Reply.{doneReply, refusedReply}
-use Rattle.wire.specs.Lent.{nodesBytes, orderBytes, shortNumber, lentOf, askTable}
-use Rattle.wire.specs.Sent.{argsBefore, planBefore, tablesBefore, treeTablesBefore, treeBefore, askBefore}
+use Rattle.wire_lengths.specs.Lengths.{nodesBytes, orderBytes, shortNumber}
+use Rattle.wire.specs.Lent.{lentOf, askTable}
+use Rattle.wire_lengths.specs.Lengths.{argsBefore, planBefore, tablesBefore, treeTablesBefore, treeBefore, askBefore}
 use Rattle.bemitondry_values.specs.Values.{floatReply, boxWords, boxReply, rootReply, acosReply, primDistReply}
 use Rattle.bemitondry_values.specs.Values.{primBoundsReply}
 use Rattle.bemitondry_values.specs.Light.{vecReply, formFactorReply, fresnelReply, f0Reply, diffuseAlbedoReply}

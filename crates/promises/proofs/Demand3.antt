@@ -18,7 +18,7 @@ use Rattle.plan.specs.Plan.{seen}
 use Rattle.bvh_search.specs.Field.{hitBy}
 use Rattle.reply.specs.declared.Reply.{Reply}
 use Rattle.wire.specs.Lent.{askTable}
-use Rattle.wire.specs.Sent.{askBefore}
+use Rattle.wire_lengths.specs.Lengths.{askBefore}
 use Rattle.bemitondry_ask.specs.Asks.{argVec, queryBound, queryReply, distMatReply}
 use Rattle.bemitondry_ask.specs.Marches.{traceReply, shadowReply}
 use Rattle.bemitondry_light.specs.Light.{directReply, directDiffuseReply}

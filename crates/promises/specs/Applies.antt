@@ -26,7 +26,8 @@ use Rattle.plan_entry.specs.Entry.{argCutsNumber}
 use Rattle.bvh_build.specs.Tables.{lowEnough}
 use Rattle.panel.specs.Panels.{panelsNumber}
 use Rattle.reply.specs.declared.Reply.{Reply}
-use Rattle.wire.specs.Lent.{planBytes, nodesBytes, orderBytes, outBytes, shortNumber, lentOf, givenFloat, givenVec}
+use Rattle.wire_lengths.specs.Lengths.{planBytes, nodesBytes, orderBytes, outBytes, shortNumber}
+use Rattle.wire.specs.Lent.{lentOf, givenFloat, givenVec}
 use Rattle.wire.specs.Lent.{planTable}
 use Rattle.bemitondry_values.specs.Light.{quadOk}
 use Rattle.bemitondry_emitter.specs.Emitter.{recordsOk, lentLights, aimOk}

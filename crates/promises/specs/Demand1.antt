@@ -23,7 +23,8 @@ use Rattle.plan_write.specs.Written.{argCuts, sectionOf}
 use Rattle.plan_entry.specs.Entry.{newPlace}
 use Rattle.plan_entry.specs.After.{givenPiece, withOne}
 use Rattle.reply.specs.Reply.{oneWord, refusedReply}
-use Rattle.wire.specs.Lent.{nodesBytes, orderBytes, outBytes, planTable}
+use Rattle.wire_lengths.specs.Lengths.{nodesBytes, orderBytes, outBytes}
+use Rattle.wire.specs.Lent.{planTable}
 use Rattle.wire.specs.Sent.{clearedFront}
 use Rattle.wire_entry.specs.Entries.{MaterialSent, LightSent, PlaneSent, ObjectSent}
 use Rattle.promises.specs.Bytes.{planWith, planAt, FullPlan, FullTree}

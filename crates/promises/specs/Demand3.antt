@@ -31,7 +31,8 @@ use Rattle.reply.specs.Reply.{oneWord}
 use Rattle.bemitondry_ask.specs.Asks.{argVec, queryBound, searchedReply, queryReply, distMatReply}
 use Rattle.bemitondry_ask.specs.Marches.{traceReply, shadowReply}
 use Rattle.bemitondry_light.specs.Light.{directReply, directDiffuseReply}
-use Rattle.wire.specs.Lent.{outBytes, askTable}
+use Rattle.wire_lengths.specs.Lengths.{outBytes}
+use Rattle.wire.specs.Lent.{askTable}
 use Rattle.wire.specs.Sent.{Sent}
 use Rattle.viewer.specs.Calls.{Ask, askReply}
 use Rattle.wire_tree.specs.Trees.{BuildSent, OfferSent}

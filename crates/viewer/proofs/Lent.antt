@@ -8,7 +8,8 @@ use lib.Ieee.{Float}
 use Rattle.plan.specs.Plan.{seen}
 use Rattle.reply.specs.declared.Reply.{Reply}
 use Rattle.wire.specs.Lent.{askTable}
-use Rattle.wire.specs.Sent.{askBefore, Sent}
+use Rattle.wire_lengths.specs.Lengths.{askBefore}
+use Rattle.wire.specs.Sent.{Sent}
 use Rattle.wire.proofs.Replies.{sent-as}
 use Rattle.viewer.specs.Calls.{Ask, askReply}
 

@@ -19,7 +19,7 @@ pub extern "C" fn viewer_root(args: &[u8], out: &mut [u8]) -> u32
     ensures { λ n. ⌜ Sent (rootLent (now (args .entry)) (length (now (out .entry)))) (now (out .entry)) n
         (now (out .exit)) ⌝ }
 {
-    let n = wire::args_before(4, args.len(), out.len());
+    let n = wire_lengths::args_before(4, args.len(), out.len());
     let a = wire::lent(args, 4);
     wire::send(bemitondry_values::root(n, wire::float_at(a, 0)), out)
 }
@@ -29,7 +29,7 @@ pub extern "C" fn viewer_acos(args: &[u8], out: &mut [u8]) -> u32
     ensures { λ n. ⌜ Sent (acosLent (now (args .entry)) (length (now (out .entry)))) (now (out .entry)) n
         (now (out .exit)) ⌝ }
 {
-    let n = wire::args_before(4, args.len(), out.len());
+    let n = wire_lengths::args_before(4, args.len(), out.len());
     let a = wire::lent(args, 4);
     wire::send(bemitondry_values::acos(n, wire::float_at(a, 0)), out)
 }
@@ -39,7 +39,7 @@ pub extern "C" fn viewer_prim_dist(args: &[u8], out: &mut [u8]) -> u32
     ensures { λ n.
         ⌜ Sent (primDistLent (now (args .entry)) (length (now (out .entry)))) (now (out .entry)) n (now (out .exit)) ⌝ }
 {
-    let n = wire::args_before(48, args.len(), out.len());
+    let n = wire_lengths::args_before(48, args.len(), out.len());
     let a = wire::lent(args, 48);
     let r = bemitondry_values::prim_dist(
         n,
@@ -59,7 +59,7 @@ pub extern "C" fn viewer_prim_bounds(args: &[u8], out: &mut [u8]) -> u32
         ⌜ Sent (primBoundsLent (now (args .entry)) (length (now (out .entry)))) (now (out .entry)) n
         (now (out .exit)) ⌝ }
 {
-    let n = wire::args_before(36, args.len(), out.len());
+    let n = wire_lengths::args_before(36, args.len(), out.len());
     let a = wire::lent(args, 36);
     let r = bemitondry_values::prim_bounds(
         n,
@@ -78,7 +78,7 @@ pub extern "C" fn viewer_form_factor(args: &[u8], out: &mut [u8]) -> u32
         ⌜ Sent (formFactorLent (now (args .entry)) (length (now (out .entry)))) (now (out .entry)) n
         (now (out .exit)) ⌝ }
 {
-    let n = wire::args_before(48, args.len(), out.len());
+    let n = wire_lengths::args_before(48, args.len(), out.len());
     let a = wire::lent(args, 48);
     let q = Quad {
         v0: wire::vec_at(a, 0),
@@ -94,7 +94,7 @@ pub extern "C" fn viewer_fresnel(args: &[u8], out: &mut [u8]) -> u32
     ensures { λ n.
         ⌜ Sent (fresnelLent (now (args .entry)) (length (now (out .entry)))) (now (out .entry)) n (now (out .exit)) ⌝ }
 {
-    let n = wire::args_before(16, args.len(), out.len());
+    let n = wire_lengths::args_before(16, args.len(), out.len());
     let a = wire::lent(args, 16);
     let r = bemitondry_values::fresnel(n, wire::float_at(a, 0), wire::vec_at(a, 1));
     wire::send(r, out)
@@ -116,7 +116,7 @@ pub extern "C" fn viewer_f0(args: &[u8], out: &mut [u8]) -> u32
     ensures { λ n.
         ⌜ Sent (f0Lent (now (args .entry)) (length (now (out .entry)))) (now (out .entry)) n (now (out .exit)) ⌝ }
 {
-    let n = wire::args_before(20, args.len(), out.len());
+    let n = wire_lengths::args_before(20, args.len(), out.len());
     let a = wire::lent(args, 20);
     wire::send(bemitondry_values::f0(n, material_in(a)), out)
 }
@@ -127,7 +127,7 @@ pub extern "C" fn viewer_diffuse_albedo(args: &[u8], out: &mut [u8]) -> u32
         ⌜ Sent (diffuseAlbedoLent (now (args .entry)) (length (now (out .entry)))) (now (out .entry)) n
         (now (out .exit)) ⌝ }
 {
-    let n = wire::args_before(20, args.len(), out.len());
+    let n = wire_lengths::args_before(20, args.len(), out.len());
     let a = wire::lent(args, 20);
     wire::send(bemitondry_values::diffuse_albedo(n, material_in(a)), out)
 }
@@ -138,7 +138,7 @@ pub extern "C" fn viewer_emitter_hit(lights: &[u8], args: &[u8], out: &mut [u8])
         ⌜ Sent (emitterLent (now (lights .entry)) (now (args .entry)) (length (now (out .entry)))) (now (out .entry)) n
         (now (out .exit)) ⌝ }
 {
-    let n = wire::args_before(28, args.len(), out.len());
+    let n = wire_lengths::args_before(28, args.len(), out.len());
     let a = wire::lent(args, 28);
     let r = bemitondry_emitter::emitter_hit(
         n,
@@ -168,7 +168,7 @@ pub extern "C" fn viewer_query(
     let mut ws = [0u32; plan::TABLE];
     let mut fs = [0.0f32; plan::TABLE];
     wire::load_ask(20, plan, nodes, order, tree, args, &mut ws, &mut fs);
-    let n = wire::ask_before(
+    let n = wire_lengths::ask_before(
         20,
         plan.len(),
         nodes.len(),
@@ -198,7 +198,7 @@ pub extern "C" fn viewer_dist_mat(
     let mut ws = [0u32; plan::TABLE];
     let mut fs = [0.0f32; plan::TABLE];
     wire::load_ask(12, plan, nodes, order, tree, args, &mut ws, &mut fs);
-    let n = wire::ask_before(
+    let n = wire_lengths::ask_before(
         12,
         plan.len(),
         nodes.len(),
@@ -228,7 +228,7 @@ pub extern "C" fn viewer_trace(
     let mut ws = [0u32; plan::TABLE];
     let mut fs = [0.0f32; plan::TABLE];
     wire::load_ask(32, plan, nodes, order, tree, args, &mut ws, &mut fs);
-    let n = wire::ask_before(
+    let n = wire_lengths::ask_before(
         32,
         plan.len(),
         nodes.len(),
@@ -258,7 +258,7 @@ pub extern "C" fn viewer_soft_shadow(
     let mut ws = [0u32; plan::TABLE];
     let mut fs = [0.0f32; plan::TABLE];
     wire::load_ask(36, plan, nodes, order, tree, args, &mut ws, &mut fs);
-    let n = wire::ask_before(
+    let n = wire_lengths::ask_before(
         36,
         plan.len(),
         nodes.len(),
@@ -288,7 +288,7 @@ pub extern "C" fn viewer_direct(
     let mut ws = [0u32; plan::TABLE];
     let mut fs = [0.0f32; plan::TABLE];
     wire::load_ask(56, plan, nodes, order, tree, args, &mut ws, &mut fs);
-    let n = wire::ask_before(
+    let n = wire_lengths::ask_before(
         56,
         plan.len(),
         nodes.len(),
@@ -318,7 +318,7 @@ pub extern "C" fn viewer_direct_diffuse(
     let mut ws = [0u32; plan::TABLE];
     let mut fs = [0.0f32; plan::TABLE];
     wire::load_ask(36, plan, nodes, order, tree, args, &mut ws, &mut fs);
-    let n = wire::ask_before(
+    let n = wire_lengths::ask_before(
         36,
         plan.len(),
         nodes.len(),

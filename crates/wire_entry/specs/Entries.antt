@@ -11,8 +11,10 @@ use Rattle.plan.specs.Sections.{planWords, materials, lights, planes, objects}
 use Rattle.plan.specs.Plan.{countOf, seen}
 use Rattle.plan_write.specs.Written.{withMaterialWords, withLightWords}
 use Rattle.reply.specs.Reply.{oneWord, replyOf}
-use Rattle.wire.specs.Lent.{planTable, nodesBytes, orderBytes}
-use Rattle.wire.specs.Sent.{planBefore, treeTablesBefore, cleared, Sent}
+use Rattle.wire_lengths.specs.Lengths.{nodesBytes, orderBytes}
+use Rattle.wire.specs.Lent.{planTable}
+use Rattle.wire_lengths.specs.Lengths.{planBefore, treeTablesBefore}
+use Rattle.wire.specs.Sent.{cleared, Sent}
 use Rattle.bemitondry_entry.specs.Entries.{materialEntry, lightEntry, pieceEntry, pieceLeft}
 
 -- the number of what entered is sent, and the plan's words of the table `left` are stored, where the number is 0

@@ -9,7 +9,7 @@ pub fn add_material(plan: &mut [u8], args: &[u8], out: &mut [u8]) -> u32
     let mut ws = [0u32; plan::TABLE];
     let mut fs = [0.0f32; plan::TABLE];
     wire::load_plan(20, plan, args, &mut ws, &mut fs);
-    let n = wire::plan_before(plan.len(), 20, args.len(), out.len());
+    let n = wire_lengths::plan_before(plan.len(), 20, args.len(), out.len());
     let r = bemitondry_entry::add_material(n, &mut ws, &fs);
     wire::store_plan(r.number == 0, &ws, plan);
     wire::send(r, out)
@@ -23,7 +23,7 @@ pub fn add_light(plan: &mut [u8], args: &[u8], out: &mut [u8]) -> u32
     let mut ws = [0u32; plan::TABLE];
     let mut fs = [0.0f32; plan::TABLE];
     wire::load_plan(60, plan, args, &mut ws, &mut fs);
-    let n = wire::plan_before(plan.len(), 60, args.len(), out.len());
+    let n = wire_lengths::plan_before(plan.len(), 60, args.len(), out.len());
     let r = bemitondry_entry::add_light(n, &mut ws, &fs);
     wire::store_plan(r.number == 0, &ws, plan);
     wire::send(r, out)
@@ -37,7 +37,7 @@ pub fn add_plane(plan: &mut [u8], args: &[u8], out: &mut [u8]) -> u32
     let mut ws = [0u32; plan::TABLE];
     let mut fs = [0.0f32; plan::TABLE];
     wire::load_plan(64, plan, args, &mut ws, &mut fs);
-    let n = wire::plan_before(plan.len(), 64, args.len(), out.len());
+    let n = wire_lengths::plan_before(plan.len(), 64, args.len(), out.len());
     let r = bemitondry_entry::add_piece(n, true, &mut ws, &fs, args.len());
     wire::store_plan(r.number == 0, &ws, plan);
     wire::send(r, out)
@@ -57,7 +57,7 @@ pub fn add_object(
     let mut ws = [0u32; plan::TABLE];
     let mut fs = [0.0f32; plan::TABLE];
     wire::load_plan(64, plan, args, &mut ws, &mut fs);
-    let n = wire::tree_tables_before(
+    let n = wire_lengths::tree_tables_before(
         plan.len(),
         nodes.len(),
         order.len(),
@@ -67,7 +67,7 @@ pub fn add_object(
     );
     let r = bemitondry_entry::add_piece(n, false, &mut ws, &fs, args.len());
     wire::store_plan(r.number == 0, &ws, plan);
-    wire::clear(r.number == 0, nodes, wire::NODES_BYTES);
-    wire::clear(r.number == 0, order, wire::ORDER_BYTES);
+    wire::clear(r.number == 0, nodes, wire_lengths::NODES_BYTES);
+    wire::clear(r.number == 0, order, wire_lengths::ORDER_BYTES);
     wire::send(r, out)
 }

@@ -12,7 +12,8 @@ use Rattle.plan.specs.Plan.{Plan, planOf, seen}
 use Rattle.bvh_build.specs.Tables.{sizeOf, nodesWith, orderWith}
 use Rattle.reply.specs.Reply.{oneWord, replyOf}
 use Rattle.wire.specs.Lent.{planTable, askTable}
-use Rattle.wire.specs.Sent.{tablesBefore, treeTablesBefore, Sent}
+use Rattle.wire_lengths.specs.Lengths.{tablesBefore, treeTablesBefore}
+use Rattle.wire.specs.Sent.{Sent}
 use Rattle.bemitondry_tree.specs.Trees.{noNodes, noOrder, buildNumber, offerNumber}
 use Rattle.bemitondry_tree.specs.Trees.{judgedTree, sizeIn, offeredNodes, offeredOrder}
 

@@ -17,7 +17,8 @@ use Rattle.plan_entry.specs.After as made
 use Rattle.plan_entry.specs.After.{withOne, Made}
 use Rattle.plan_entry.proofs.Entered.{piece-entered, material-entered, light-entered}
 use Rattle.wire.specs.Lent.{planTable}
-use Rattle.wire.specs.Sent.{planBefore, cleared}
+use Rattle.wire_lengths.specs.Lengths.{planBefore}
+use Rattle.wire.specs.Sent.{cleared}
 use Rattle.bemitondry_entry.specs.Entries.{materialEntry, lightEntry, pieceEntry, pieceLeft}
 use Rattle.wire_entry.specs.Entries.{EntrySent, objectBefore}
 use Rattle.promises.specs.Bytes.{FullPlan, FullTree}

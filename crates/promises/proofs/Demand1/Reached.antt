@@ -25,8 +25,9 @@ use Rattle.plan_entry.specs.After.{givenPiece, withOne}
 use Rattle.plan_entry.proofs.Accepts.{accepted}
 use Rattle.plan_entry.proofs.Entered.{placeFor, Placed, placed-for}
 use Rattle.reply.specs.Reply.{oneWord, replyOf}
-use Rattle.wire.specs.Lent.{planBytes, nodesBytes, orderBytes, outBytes, planTable}
-use Rattle.wire.specs.Sent.{planBefore}
+use Rattle.wire_lengths.specs.Lengths.{planBytes, nodesBytes, orderBytes, outBytes}
+use Rattle.wire.specs.Lent.{planTable}
+use Rattle.wire_lengths.specs.Lengths.{planBefore}
 use Rattle.bemitondry_entry.specs.Entries.{pieceEntry, pieceLeft}
 use Rattle.wire_entry.specs.Entries.{EntrySent, objectBefore}
 use Rattle.promises.specs.Bytes.{planAt, FullPlan, FullTree}

@@ -16,7 +16,8 @@ use Rattle.plan.specs.Plan.{countOf}
 use Rattle.plan_write.specs.Written.{argCuts, sectionOf, pieceWords, cutterWords, firstWord, recordWords, putRow}
 use Rattle.plan_write.specs.Written.{putCutters, oneMore, withPiece, withMaterialWords, withLightWords}
 use Rattle.plan_write.proofs.Lists.{row-out, length-row, row-other}
-use Rattle.wire.specs.Lent.{planBytes, lentOf, planTable}
+use Rattle.wire_lengths.specs.Lengths.{planBytes}
+use Rattle.wire.specs.Lent.{lentOf, planTable}
 use Rattle.promises.proofs.Tables.{stored-word, lent-full, plan-length, plan-word, rest-word}
 
 pub record WritesPlan (w left : List ℕ) : Type 0 where

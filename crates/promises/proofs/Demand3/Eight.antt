@@ -32,8 +32,9 @@ use Rattle.bvh_rules.proofs.Exact.{standing-exact}
 use Rattle.panel.specs.Panels.{panelOf, atLightNumber, panelsNumber}
 use Rattle.reply.specs.declared.Reply.{Reply}
 use Rattle.reply.specs.Reply.{doneReply, refusedReply, replyOf}
-use Rattle.wire.specs.Lent.{askTable, shortNumber}
-use Rattle.wire.specs.Sent.{argsBefore, planBefore, tablesBefore, treeBefore, askBefore}
+use Rattle.wire_lengths.specs.Lengths.{shortNumber}
+use Rattle.wire.specs.Lent.{askTable}
+use Rattle.wire_lengths.specs.Lengths.{argsBefore, planBefore, tablesBefore, treeBefore, askBefore}
 use Rattle.bemitondry_ask.specs.Asks.{foundReply, treeNumber, queryNumber, queryReply, solidsAsk, distMatReply}
 use Rattle.bemitondry_ask.specs.Marches.{traceReply, shadowReply}
 use Rattle.bemitondry_light.specs.Light.{litAsk, litReply, directReply, directDiffuseReply}

@@ -1,9 +1,9 @@
--- `wire::tree_before` meets its contract: each return is a case of `treeBefore`. Assumes nothing.
+-- `wire_lengths::tree_before` meets its contract: each return is a case of `treeBefore`. Assumes nothing.
 use borrow.Author.Tests.{eq-eqb, ne-eqb}
-use Rattle.wire.specs.Sent.{treeBefore}
+use Rattle.wire_lengths.specs.Lengths.{treeBefore}
 use borrow.Author.Needs.{needs}
-use Rattle.wire.proofs.tree_before.Statement.{statement}
-use Rattle.wire.proofs.tree_before.Tie as tie
+use Rattle.wire_lengths.proofs.tree_before.Statement.{statement}
+use Rattle.wire_lengths.proofs.tree_before.Tie as tie
 
 returns : tie.Need-returns
 unfolding treeBefore

@@ -1,8 +1,8 @@
--- `wire::ask_before` meets its contract, by those of its calls. Assumes nothing.
-use Rattle.wire.specs.Sent.{askBefore}
+-- `wire_lengths::ask_before` meets its contract, by those of its calls. Assumes nothing.
+use Rattle.wire_lengths.specs.Lengths.{askBefore}
 use borrow.Author.Needs.{needs}
-use Rattle.wire.proofs.ask_before.Statement.{statement}
-use Rattle.wire.proofs.ask_before.Tie as tie
+use Rattle.wire_lengths.proofs.ask_before.Statement.{statement}
+use Rattle.wire_lengths.proofs.ask_before.Tie as tie
 
 returns : tie.Need-returns
 unfolding askBefore

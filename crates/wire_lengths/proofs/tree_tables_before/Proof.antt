@@ -1,8 +1,8 @@
--- `wire::tree_tables_before` meets its contract, by those of its calls. Assumes nothing.
-use Rattle.wire.specs.Sent.{treeTablesBefore}
+-- `wire_lengths::tree_tables_before` meets its contract, by those of its calls. Assumes nothing.
+use Rattle.wire_lengths.specs.Lengths.{treeTablesBefore}
 use borrow.Author.Needs.{needs}
-use Rattle.wire.proofs.tree_tables_before.Statement.{statement}
-use Rattle.wire.proofs.tree_tables_before.Tie as tie
+use Rattle.wire_lengths.proofs.tree_tables_before.Statement.{statement}
+use Rattle.wire_lengths.proofs.tree_tables_before.Tie as tie
 
 returns : tie.Need-returns
 unfolding treeTablesBefore

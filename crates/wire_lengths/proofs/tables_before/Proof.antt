@@ -1,8 +1,8 @@
--- `wire::tables_before` meets its contract, by those of its calls. Assumes nothing.
-use Rattle.wire.specs.Sent.{tablesBefore}
+-- `wire_lengths::tables_before` meets its contract, by those of its calls. Assumes nothing.
+use Rattle.wire_lengths.specs.Lengths.{tablesBefore}
 use borrow.Author.Needs.{needs}
-use Rattle.wire.proofs.tables_before.Statement.{statement}
-use Rattle.wire.proofs.tables_before.Tie as tie
+use Rattle.wire_lengths.proofs.tables_before.Statement.{statement}
+use Rattle.wire_lengths.proofs.tables_before.Tie as tie
 
 returns : tie.Need-returns
 unfolding tablesBefore

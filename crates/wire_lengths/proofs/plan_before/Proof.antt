@@ -1,8 +1,8 @@
--- `wire::plan_before` meets its contract, by those of its calls. Assumes nothing.
-use Rattle.wire.specs.Sent.{planBefore}
+-- `wire_lengths::plan_before` meets its contract, by those of its calls. Assumes nothing.
+use Rattle.wire_lengths.specs.Lengths.{planBefore}
 use borrow.Author.Needs.{needs}
-use Rattle.wire.proofs.plan_before.Statement.{statement}
-use Rattle.wire.proofs.plan_before.Tie as tie
+use Rattle.wire_lengths.proofs.plan_before.Statement.{statement}
+use Rattle.wire_lengths.proofs.plan_before.Tie as tie
 
 returns : tie.Need-returns
 unfolding planBefore

@@ -1,8 +1,8 @@
--- `wire::args_before` meets its contract, by those of its calls. Assumes nothing.
-use Rattle.wire.specs.Sent.{argsBefore}
+-- `wire_lengths::args_before` meets its contract, by those of its calls. Assumes nothing.
+use Rattle.wire_lengths.specs.Lengths.{argsBefore}
 use borrow.Author.Needs.{needs}
-use Rattle.wire.proofs.args_before.Statement.{statement}
-use Rattle.wire.proofs.args_before.Tie as tie
+use Rattle.wire_lengths.proofs.args_before.Statement.{statement}
+use Rattle.wire_lengths.proofs.args_before.Tie as tie
 
 returns : tie.Need-returns
 unfolding argsBefore
