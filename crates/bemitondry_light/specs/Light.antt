@@ -19,7 +19,7 @@ use Rattle.bvh_search.specs.Field.{fieldBy}
 use Rattle.shade.specs.declared.Lit.{Lit}
 use Rattle.panel.specs.Panels.{panelsNumber}
 use Rattle.shade.specs.Direct.{directOf, directDiffuseOf}
-use Rattle.bemitondry_ask.specs.Asks.{argVec, argFloat, treeNumber}
+use Rattle.ask_test.specs.Numbers.{argVec, argFloat, treeNumber}
 use Rattle.reply.specs.declared.Reply.{Reply}
 use Rattle.reply.specs.Reply.{bits, doneReply, replyOf}
 

@@ -27,7 +27,7 @@ fn lit_ask(before: u32, given: u32, tree: u32, p: Vec3, ws: &Words, fs: &Floats)
         refusals::lower(given, plan_test::lit_number(ws, fs)),
     );
     refusals::lower(
-        refusals::lower(plan, bemitondry_ask::tree_number(tree, ws, fs)),
+        refusals::lower(plan, ask_test::tree_number(tree, ws, fs)),
         shade::panels_number(ws, fs, p),
     )
 }

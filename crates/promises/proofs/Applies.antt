@@ -28,7 +28,8 @@ use Rattle.bemitondry_values.specs.Values.{floatReply, boxWords, boxReply, root
 use Rattle.bemitondry_values.specs.Values.{primBoundsReply}
 use Rattle.bemitondry_values.specs.Light.{vecReply, formFactorReply, fresnelReply, f0Reply, diffuseAlbedoReply}
 use Rattle.bemitondry_emitter.specs.Emitter.{emitterNumber, emittedReply, emitterReply}
-use Rattle.bemitondry_ask.specs.Asks.{foundReply, queryNumber, queryReply, solidsAsk, distMatReply}
+use Rattle.ask_test.specs.Numbers.{queryNumber, solidsAsk}
+use Rattle.bemitondry_ask.specs.Asks.{foundReply, queryReply, distMatReply}
 use Rattle.bemitondry_ask.specs.Marches.{traceReply, shadowReply}
 use Rattle.bemitondry_light.specs.Light.{litAsk, litReply, directReply, directDiffuseReply}
 use Rattle.viewer.specs.Calls.{rootLent, acosLent, primDistLent, primBoundsLent, givenShape, formFactorLent}

@@ -32,8 +32,10 @@ use Rattle.wire.specs.Lent.{planTable}
 use Rattle.bemitondry_values.specs.Light.{quadOk}
 use Rattle.bemitondry_emitter.specs.Emitter.{recordsOk, lentLights, aimOk}
 use Rattle.bemitondry_tree.specs.Trees.{offeredTree}
-use Rattle.bemitondry_ask.specs.Asks.{argVec, argFloat, treeNumber, queryReply, distMatReply}
-use Rattle.bemitondry_ask.specs.Marches.{rayGiven, traceReply, shadowReply}
+use Rattle.ask_test.specs.Numbers.{argVec, argFloat, treeNumber}
+use Rattle.bemitondry_ask.specs.Asks.{queryReply, distMatReply}
+use Rattle.ask_test.specs.Numbers.{rayGiven}
+use Rattle.bemitondry_ask.specs.Marches.{traceReply, shadowReply}
 use Rattle.bemitondry_light.specs.Light.{siteOk, panels, argMaterial, directReply, directDiffuseReply}
 use Rattle.viewer.specs.Calls.{rootLent, acosLent, primDistLent, primBoundsLent, givenShape, givenQuad, givenMaterial}
 use Rattle.viewer.specs.Calls.{formFactorLent, fresnelLent, f0Lent, diffuseAlbedoLent, Ask}

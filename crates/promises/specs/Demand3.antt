@@ -28,7 +28,8 @@ use Rattle.bvh_search.specs.Search.{searched}
 use Rattle.bvh_search.specs.Field.{fieldBy}
 use Rattle.bvh_search.specs.Demand.{In, Over, Demand}
 use Rattle.reply.specs.Reply.{oneWord}
-use Rattle.bemitondry_ask.specs.Asks.{argVec, queryBound, searchedReply, queryReply, distMatReply}
+use Rattle.ask_test.specs.Numbers.{argVec}
+use Rattle.bemitondry_ask.specs.Asks.{queryBound, searchedReply, queryReply, distMatReply}
 use Rattle.bemitondry_ask.specs.Marches.{traceReply, shadowReply}
 use Rattle.bemitondry_light.specs.Light.{directReply, directDiffuseReply}
 use Rattle.wire_lengths.specs.Lengths.{outBytes}

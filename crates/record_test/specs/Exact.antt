@@ -1,7 +1,7 @@
 -- What a record is where an entry takes it: the statement that the tests of records are held to. Definitions only.
 use Prim.Native.Nat.{ℕ, _≤_, _<_}
 use mathlib.Core.Path.{_≡_}
-use mathlib.Core.Bool.{Bool, true, false}
+use mathlib.Core.Bool.{Bool, false}
 use lib.Dec.{T, eqb}
 use Rattle.vec.specs.Vec.{vsub}
 use Rattle.sdf.specs.declared.Shape.{Shape}

@@ -35,7 +35,8 @@ use Rattle.reply.specs.Reply.{doneReply, refusedReply, replyOf}
 use Rattle.wire_lengths.specs.Lengths.{shortNumber}
 use Rattle.wire.specs.Lent.{askTable}
 use Rattle.wire_lengths.specs.Lengths.{argsBefore, planBefore, tablesBefore, treeBefore, askBefore}
-use Rattle.bemitondry_ask.specs.Asks.{foundReply, treeNumber, queryNumber, queryReply, solidsAsk, distMatReply}
+use Rattle.ask_test.specs.Numbers.{treeNumber, queryNumber, solidsAsk}
+use Rattle.bemitondry_ask.specs.Asks.{foundReply, queryReply, distMatReply}
 use Rattle.bemitondry_ask.specs.Marches.{traceReply, shadowReply}
 use Rattle.bemitondry_light.specs.Light.{litAsk, litReply, directReply, directDiffuseReply}
 use Rattle.viewer.specs.Calls.{Ask, askReply}

@@ -1,8 +1,8 @@
--- `bemitondry_ask::solids_ask` meets its contract, by those of its calls. Assumes nothing.
-use Rattle.bemitondry_ask.specs.Asks.{solidsAsk}
+-- `ask_test::solids_ask` meets its contract, by those of its calls. Assumes nothing.
+use Rattle.ask_test.specs.Numbers.{solidsAsk}
 use borrow.Author.Needs.{needs}
-use Rattle.bemitondry_ask.proofs.solids_ask.Statement.{statement}
-use Rattle.bemitondry_ask.proofs.solids_ask.Tie as tie
+use Rattle.ask_test.proofs.solids_ask.Statement.{statement}
+use Rattle.ask_test.proofs.solids_ask.Tie as tie
 
 returns : tie.Need-returns
 unfolding solidsAsk

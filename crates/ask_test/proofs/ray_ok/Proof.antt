@@ -1,8 +1,8 @@
--- `bemitondry_ask::ray_ok` meets its contract, by those of its calls. Assumes nothing.
-use Rattle.bemitondry_ask.specs.Marches.{rayOk}
+-- `ask_test::ray_ok` meets its contract, by those of its calls. Assumes nothing.
+use Rattle.ask_test.specs.Numbers.{rayOk}
 use borrow.Author.Needs.{needs}
-use Rattle.bemitondry_ask.proofs.ray_ok.Statement.{statement}
-use Rattle.bemitondry_ask.proofs.ray_ok.Tie as tie
+use Rattle.ask_test.proofs.ray_ok.Statement.{statement}
+use Rattle.ask_test.proofs.ray_ok.Tie as tie
 
 returns : tie.Need-returns
 unfolding rayOk

@@ -1,9 +1,9 @@
--- `bemitondry_ask::tree_number` meets its contract: the standing tree's number where the tree is used. Assumes nothing.
+-- `ask_test::tree_number` meets its contract: the standing tree's number where the tree is used. Assumes nothing.
 use borrow.Author.Tests.{eq-eqb, ne-eqb}
-use Rattle.bemitondry_ask.specs.Asks.{treeNumber}
+use Rattle.ask_test.specs.Numbers.{treeNumber}
 use borrow.Author.Needs.{needs}
-use Rattle.bemitondry_ask.proofs.tree_number.Statement.{statement}
-use Rattle.bemitondry_ask.proofs.tree_number.Tie as tie
+use Rattle.ask_test.proofs.tree_number.Statement.{statement}
+use Rattle.ask_test.proofs.tree_number.Tie as tie
 
 returns : tie.Need-returns
 unfolding treeNumber

@@ -1,8 +1,8 @@
--- `bemitondry_ask::query_number` meets its contract, by those of its calls. Assumes nothing.
-use Rattle.bemitondry_ask.specs.Asks.{queryNumber}
+-- `ask_test::query_number` meets its contract, by those of its calls. Assumes nothing.
+use Rattle.ask_test.specs.Numbers.{queryNumber}
 use borrow.Author.Needs.{needs}
-use Rattle.bemitondry_ask.proofs.query_number.Statement.{statement}
-use Rattle.bemitondry_ask.proofs.query_number.Tie as tie
+use Rattle.ask_test.proofs.query_number.Statement.{statement}
+use Rattle.ask_test.proofs.query_number.Tie as tie
 
 returns : tie.Need-returns
 unfolding queryNumber
