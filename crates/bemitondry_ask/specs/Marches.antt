@@ -1,12 +1,10 @@
--- What marches reply on a loaded table: a ray's, and a shadow's. "Ray origins to 20,000; ray directions to 1.5 a
--- component; `tmin`, `tmax` 0 to 100,000; `k` 0 to 1,000." Definitions only.
+-- What marches reply on a loaded table: a ray's, and a shadow's. "`k` 0 to 1,000." Definitions only.
 use Prim.Native.Nat.{ℕ}
-use mathlib.Core.Bool.{Bool, _&&_}
+use mathlib.Core.Bool.{_&&_}
 use mathlib.Core.List.{List}
 use lib.Ieee.{Float}
-use Rattle.vec.specs.declared.Vec3.{Vec3}
 use Rattle.refusals.specs.Refusals.{lower}
-use Rattle.refusals.specs.Ranges.{farther, steep, longest, sharpest, upTo, within}
+use Rattle.refusals.specs.Ranges.{sharpest, upTo}
 use Rattle.bvh_search.specs.Field.{fieldBy}
 use Rattle.trace.specs.declared.Shadow.{Shadow}
 use Rattle.trace.specs.declared.Traced.{Traced}
@@ -15,14 +13,7 @@ use Rattle.trace.specs.Trace.{traceOf}
 use Rattle.trace.specs.Shadow.{shadowOf}
 use Rattle.reply.specs.declared.Reply.{Reply}
 use Rattle.reply.specs.Reply.{bits, doneReply, replyOf}
-use Rattle.bemitondry_ask.specs.Asks.{argVec, argFloat, treeNumber, solidsAsk}
-
-unfoldable pub rayOk : Vec3 → Vec3 → Float → Float → Bool
-rayOk ro rd tmin tmax = within ro farther && (within rd steep && (upTo tmin longest && upTo tmax longest))
-
--- the ray in the arguments: origin, direction, tmin, tmax
-abbrev pub rayGiven : List Float → Bool
-rayGiven f = rayOk (argVec f 0) (argVec f 3) (argFloat f 6) (argFloat f 7)
+use Rattle.ask_test.specs.Numbers.{argVec, argFloat, treeNumber, solidsAsk, rayGiven}
 
 -- "hit (1 or 0), t, point x y z, material, count; on a miss every word but the count is 0"
 unfoldable pub tracedReply : Traced → Reply

@@ -12,7 +12,7 @@ use Rattle.words.specs.Lists.{listFrom}
 use Rattle.refusals.specs.Refusals.{badNumber, noRoom, unless, lower, lowestOf}
 use Rattle.refusals.specs.Ranges.{farther, steep, longest, upTo, within}
 use Rattle.plan.specs.declared.QuadLight.{QuadLight}
-use Rattle.plan_test.specs.Numbers.{lightNumber}
+use Rattle.record_test.specs.Numbers.{lightNumber}
 use Rattle.emitter.specs.declared.Emitted.{Emitted}
 use Rattle.emitter.specs.declared.Emitted.the-variants.{Nothing, Shows}
 use Rattle.emitter.specs.Emitter.{emitterOf}

@@ -5,7 +5,7 @@ ghost use Prim.Native.Nat.{_+_, _*_};
 ghost use lib.ListN.{length};
 ghost use Rattle.words.specs.Lists.{listFrom};
 ghost use Rattle.refusals.specs.Refusals.{lowestOf};
-ghost use Rattle.plan_test.specs.Numbers.{lightNumber};
+ghost use Rattle.record_test.specs.Numbers.{lightNumber};
 ghost use Rattle.wire.specs.Lent.{givenVec};
 ghost use Rattle.emitter.specs.Emitter.{emitterOf};
 ghost use Rattle.bemitondry_emitter.specs.Emitter.{recordsOk, recordsIn, lentLight, aimOk, emittedReply};
@@ -66,7 +66,7 @@ fn lights_number(b: &[u8], n: u32) -> u32
     let mut least: u32 = 0;
     let mut i: u32 = 0;
     while i < n {
-        least = refusals::lower(least, plan_test::light_number(light_in(b, i)));
+        least = refusals::lower(least, record_test::light_number(light_in(b, i)));
         i += 1;
     }
     least

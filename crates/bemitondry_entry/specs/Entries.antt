@@ -9,12 +9,13 @@ use lib.Ieee.{Float}
 use Rattle.plan.specs.Sections.{materials, lights, argsRow}
 use Rattle.plan.specs.Records.{materialAt, lightAt}
 use Rattle.plan.specs.Plan.{countOf, planOf}
-use Rattle.plan_test.specs.Numbers.{materialNumber, lightNumber}
+use Rattle.record_test.specs.Numbers.{materialNumber, lightNumber}
 use Rattle.plan_test.specs.Tests.{solidsOf}
 use Rattle.plan_entry.specs.declared.Added.{Added}
 use Rattle.plan_entry.specs.declared.Added.the-variants.{Refused, Done}
-use Rattle.plan_entry.specs.Entry.{argCuts, sectionOf, pieceNumber, recordNumber, newPlace}
-use Rattle.plan_entry.specs.Entry.{withPiece, withMaterialWords, withLightWords}
+use Rattle.plan_write.specs.Written.{argCuts, sectionOf}
+use Rattle.plan_entry.specs.Entry.{pieceNumber, recordNumber, newPlace}
+use Rattle.plan_write.specs.Written.{withPiece, withMaterialWords, withLightWords}
 use Rattle.reply.specs.declared.Reply.{Reply}
 use Rattle.reply.specs.Reply.{refusedReply, oneWord, replyOf}
 

@@ -13,13 +13,13 @@ use Rattle.plan.specs.declared.Material.{Material}
 use Rattle.plan.specs.declared.QuadLight.{QuadLight}
 use Rattle.plan.specs.Sections.{lights}
 use Rattle.plan.specs.Plan.{planOf}
-use Rattle.plan_test.specs.Numbers.{materialNumber}
+use Rattle.record_test.specs.Numbers.{materialNumber}
 use Rattle.plan_test.specs.Tests.{litNumber}
 use Rattle.bvh_search.specs.Field.{fieldBy}
 use Rattle.shade.specs.declared.Lit.{Lit}
 use Rattle.panel.specs.Panels.{panelsNumber}
 use Rattle.shade.specs.Direct.{directOf, directDiffuseOf}
-use Rattle.bemitondry_ask.specs.Asks.{argVec, argFloat, treeNumber}
+use Rattle.ask_test.specs.Numbers.{argVec, argFloat, treeNumber}
 use Rattle.reply.specs.declared.Reply.{Reply}
 use Rattle.reply.specs.Reply.{bits, doneReply, replyOf}
 

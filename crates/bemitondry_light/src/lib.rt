@@ -27,7 +27,7 @@ fn lit_ask(before: u32, given: u32, tree: u32, p: Vec3, ws: &Words, fs: &Floats)
         refusals::lower(given, plan_test::lit_number(ws, fs)),
     );
     refusals::lower(
-        refusals::lower(plan, bemitondry_ask::tree_number(tree, ws, fs)),
+        refusals::lower(plan, ask_test::tree_number(tree, ws, fs)),
         shade::panels_number(ws, fs, p),
     )
 }
@@ -64,7 +64,7 @@ pub fn direct(before: u32, tree: u32, ws: &Words, fs: &Floats) -> Reply
     let sited = refusals::both(site_ok(p, n), refusals::within(v, refusals::STEEP));
     let given = refusals::lower(
         refusals::unless(refusals::BAD_NUMBER, sited),
-        plan_test::material_number(m),
+        record_test::material_number(m),
     );
     let number = lit_ask(before, given, tree, p, ws, fs);
     if number == 0 {

@@ -78,10 +78,10 @@ fn offered_number(s: Sub, ws: &Words, fs: &Floats) -> u32
     ensures { λ r.
         ⌜ (s ≡ judgedTree (now (ws .entry)) (now (fs .entry)) → r ≡ offeredTree (now (ws .entry)) (now (fs .entry))) ⌝ }
 {
-    if bvh_rules::is_good(s) {
+    if bvh_check::is_good(s) {
         return 0;
     }
-    bvh_rules::refused_number(ws, fs)
+    bvh_check::refused_number(ws, fs)
 }
 
 // The tree offered as the table's nodes and order: where it is accepted, its words in tables of their own with zeros
@@ -93,7 +93,7 @@ pub fn offer(before: u32, ws: &Words, fs: &Floats, nw: &mut Nodes, ow: &mut Orde
     let _words: &[u32] = ws;
     let o = plan_test::objects_number(ws, fs);
     if o == 0 {
-        let s = bvh_rules::judge(ws, fs, 64);
+        let s = bvh_check::judge(ws, fs, 64);
         let n = refusals::lower(before, offered_number(s, ws, fs));
         if n == 0 {
             let size = bvh_build::narrow(size_in(s));

@@ -8,7 +8,7 @@ use Rattle.vec.specs.declared.Vec3.{Vec3}
 use Rattle.refusals.specs.Refusals.{badNumber, unless, lower}
 use Rattle.refusals.specs.Ranges.{farthest, widest, within, withinUpTo}
 use Rattle.plan.specs.declared.Material.{Material}
-use Rattle.plan_test.specs.Numbers.{materialNumber}
+use Rattle.record_test.specs.Numbers.{materialNumber}
 use Rattle.quad.specs.declared.Quad.{Quad}
 use Rattle.ltc.specs.FormFactor.{formFactorOf}
 use Rattle.bsdf.specs.Bsdf.{fresnelOf, f0Of, diffuseAlbedoOf}

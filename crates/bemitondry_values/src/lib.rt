@@ -148,7 +148,7 @@ pub fn f0(before: u32, m: Material) -> Reply
     ensures { λ r. ⌜ r ≡ f0Reply before m ⌝ }
 {
     vec_reply(
-        refusals::lower(before, plan_test::material_number(m)),
+        refusals::lower(before, record_test::material_number(m)),
         bsdf::f0_of(m.albedo, m.metallic),
     )
 }
@@ -157,7 +157,7 @@ pub fn diffuse_albedo(before: u32, m: Material) -> Reply
     ensures { λ r. ⌜ r ≡ diffuseAlbedoReply before m ⌝ }
 {
     vec_reply(
-        refusals::lower(before, plan_test::material_number(m)),
+        refusals::lower(before, record_test::material_number(m)),
         bsdf::diffuse_albedo(m.albedo, m.metallic),
     )
 }

@@ -9,7 +9,7 @@ use lib.Ieee.{Float}
 use Rattle.vec.specs.declared.Vec3.{Vec3}
 use Rattle.refusals.specs.Refusals.{badNumber, noRoom, unless, lower, lowestOf}
 use Rattle.plan.specs.declared.QuadLight.{QuadLight}
-use Rattle.plan_test.specs.Numbers.{lightNumber}
+use Rattle.record_test.specs.Numbers.{lightNumber}
 use Rattle.emitter.specs.Emitter.{emitterOf}
 use Rattle.reply.specs.declared.Reply.{Reply}
 use Rattle.reply.specs.Reply.{replyOf}

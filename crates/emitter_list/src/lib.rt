@@ -1,7 +1,7 @@
 // A ray against the caller's list of panels. Functions that take the slice are proved by a walk by hand.
 ghost use mathlib.Core.Path.{_≡_};
 ghost use Rattle.refusals.specs.Refusals.{lower, lowestOf};
-ghost use Rattle.plan_test.specs.Numbers.{lightNumber};
+ghost use Rattle.record_test.specs.Numbers.{lightNumber};
 ghost use Rattle.emitter.specs.Emitter.{emitterOf};
 ghost use Rattle.reply.specs.Reply.{replyOf};
 ghost use Rattle.bemitondry_emitter.specs.Emitter.{emittedReply};
@@ -27,7 +27,7 @@ fn asked_number(n: usize, ro: Vec3, rd: Vec3, tmax: f32) -> u32
 fn number_step(least: u32, l: QuadLight) -> u32
     ensures { λ r. ⌜ r ≡ lower least (lightNumber l) ⌝ }
 {
-    let own = plan_test::light_number(l);
+    let own = record_test::light_number(l);
     refusals::lower(least, own)
 }
 

@@ -13,11 +13,12 @@ use Rattle.plan.specs.Sections.{Section, argsRow, materials}
 use Rattle.plan.specs.Records.{headAt}
 use Rattle.plan.specs.Plan.{cutsBy, countOf, seen, planIn}
 use Rattle.plan_test.specs.declared.Solids.{Solids}
-use Rattle.plan_test.specs.Numbers.{cutsNumber, ownNumber}
+use Rattle.record_test.specs.Numbers.{cutsNumber, ownNumber}
 use Rattle.plan_test.specs.Tests.{countsOk, solidsOf}
-use Rattle.plan_test.specs.Exact.{CutterOk, HeadOk}
-use Rattle.plan_test.proofs.Numbers.{own-exact, cuts-exact}
-use Rattle.plan_entry.specs.Entry.{argCuts, argCutsNumber, argsNumber, sectionOf, roomNumber, pieceNumber}
+use Rattle.record_test.specs.Exact.{CutterOk, HeadOk}
+use Rattle.record_test.proofs.Numbers.{own-exact, cuts-exact}
+use Rattle.plan_write.specs.Written.{argCuts, sectionOf}
+use Rattle.plan_entry.specs.Entry.{argCutsNumber, argsNumber, roomNumber, pieceNumber}
 use Rattle.plan_entry.specs.Entry.{recordNumber}
 
 -- ---- a piece

@@ -19,18 +19,21 @@ use Rattle.plan.specs.Plan.{Piece, cutsBy, pieceAt, piecesFrom, countOf, planOf
 use Rattle.plan.specs.Plan.{withLight, withObject}
 use Rattle.plan.proofs.Rows.{Alike, Kept, kept, material-same, light-same, materials-kept, lights-kept, pieces-kept}
 use Rattle.plan_test.specs.declared.Solids.{Solids}
-use Rattle.plan_test.specs.Numbers.{materialNumber, lightNumber}
+use Rattle.record_test.specs.Numbers.{materialNumber, lightNumber}
 use Rattle.plan_test.specs.Tests.{cuttersOf, solidsOf}
-use Rattle.plan_test.specs.Exact.{CutterOk, CountsOk, SoundSolids}
+use Rattle.record_test.specs.Exact.{CutterOk}
+use Rattle.plan_test.specs.Exact.{CountsOk, SoundSolids}
 use Rattle.plan_test.proofs.Apart.{objects-reach, planes-reach}
 use Rattle.plan_test.proofs.Exact.{counts-exact, solids-exact, solids-used}
-use Rattle.plan_entry.specs.Entry.{argWord, argCuts, pieceNumber, recordNumber, pieceWords, cutterWords}
-use Rattle.plan_entry.specs.Entry.{firstWord, recordWords}
-use Rattle.plan_entry.specs.Entry.{putRow, putCutters, newPlace, oneMore, withPiece, withMaterialWords}
-use Rattle.plan_entry.specs.Entry.{withLightWords}
+use Rattle.plan_write.specs.Written.{argWord, argCuts, pieceWords, cutterWords}
+use Rattle.plan_entry.specs.Entry.{pieceNumber, recordNumber}
+use Rattle.plan_write.specs.Written.{firstWord, recordWords}
+use Rattle.plan_write.specs.Written.{putRow, putCutters, oneMore, withPiece, withMaterialWords}
+use Rattle.plan_entry.specs.Entry.{newPlace}
+use Rattle.plan_write.specs.Written.{withLightWords}
 use Rattle.plan_entry.specs.After.{givenPiece, withOne}
-use Rattle.plan_entry.proofs.Lists.{length-row, row-here, row-other, length-cutters, cutters-other}
-use Rattle.plan_entry.proofs.Lists.{cutters-here}
+use Rattle.plan_write.proofs.Lists.{length-row, row-here, row-other, length-cutters, cutters-other}
+use Rattle.plan_write.proofs.Lists.{cutters-here}
 use Rattle.plan_entry.proofs.Given.{new-cutter, new-piece, new-record}
 use Rattle.plan_entry.proofs.Accepts.{Accepted, accepted, taken}
 

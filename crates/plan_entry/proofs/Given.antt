@@ -19,8 +19,8 @@ use Rattle.plan.specs.Sections.{argsRow}
 use Rattle.plan.specs.Records.{wordOf, floatOf, primOf, cutterAt, headAt}
 use Rattle.plan.specs.Plan.{Cuts, cutsBy, pieceAt, seen}
 use Rattle.plan.proofs.Rows.{float-of, Alike, moved}
-use Rattle.plan_entry.specs.Entry.{argWord, argCuts, usedWords, usedWord, pieceWords, cutterWords, firstWord}
-use Rattle.plan_entry.specs.Entry.{recordWords}
+use Rattle.plan_write.specs.Written.{argWord, argCuts, usedWords, usedWord, pieceWords, cutterWords, firstWord}
+use Rattle.plan_write.specs.Written.{recordWords}
 use Rattle.plan_entry.specs.After.{placed, givenPiece}
 
 -- ---- a primitive by its words: g 1 to g 8 the eight

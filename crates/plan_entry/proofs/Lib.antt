@@ -1,4 +1,4 @@
-pub mod Lists
+pub mod Answers
 pub mod Given
 pub mod Accepts
 pub mod Sound

@@ -13,15 +13,15 @@ use Rattle.words.proofs.Runs.{length-from}
 use Rattle.plan.specs.Sections.{materials, planes, lights, objects, argsRow}
 use Rattle.plan.specs.Records.{wordOf, materialAt, lightAt, lightIn, headAt}
 use Rattle.plan.specs.Plan.{pieceAt, piecesFrom, countOf, planOf, seen, planIn}
-use Rattle.plan_test.specs.Numbers.{materialNumber, lightNumber}
+use Rattle.record_test.specs.Numbers.{materialNumber, lightNumber}
 use Rattle.plan_test.specs.Tests.{cuttersOf, solidsOf, litNumber}
 use Rattle.plan_test.specs.Exact.{PieceOk, PlaceIs, SoundLit}
-use Rattle.plan_test.proofs.Numbers.{light-exact}
+use Rattle.record_test.proofs.Numbers.{light-exact}
 use Rattle.plan_test.proofs.Exact.{solids-exact, lit-exact}
-use Rattle.plan_entry.specs.Entry.{argCuts, sectionOf, recordWords, pieceWords, putRow, putCutters, oneMore}
-use Rattle.plan_entry.specs.Entry.{withPiece, withMaterialWords, withLightWords}
+use Rattle.plan_write.specs.Written.{argCuts, sectionOf, recordWords, pieceWords, putRow, putCutters, oneMore}
+use Rattle.plan_write.specs.Written.{withPiece, withMaterialWords, withLightWords}
 use Rattle.plan_entry.specs.After.{givenPiece, Made, empty, relent, piece, material, light}
-use Rattle.plan_entry.proofs.Lists.{length-row, length-cutters}
+use Rattle.plan_write.proofs.Lists.{length-row, length-cutters}
 use Rattle.plan_entry.proofs.Accepts.{Accepted, accepted, taken}
 use Rattle.plan_entry.proofs.Sound.{listOf, Fits, piece-lit, material-lit, light-lit}
 use Rattle.plan_entry.proofs.Entered.{placeFor, Placed, placed-for, piece-entered, material-entered}

@@ -11,10 +11,11 @@ use Rattle.plan.specs.declared.Material.{Material}
 use Rattle.plan.specs.declared.QuadLight.{QuadLight}
 use Rattle.plan.specs.Plan.{Piece, Plan, withMaterial, withLight}
 use Rattle.plan_test.specs.Tests.{cuttersOf}
-use Rattle.plan_test.specs.Exact.{PieceOk, PlaceIs, PiecesOk, SoundSolids, LightOk, SoundLit}
+use Rattle.record_test.specs.Exact.{LightOk}
+use Rattle.plan_test.specs.Exact.{PieceOk, PlaceIs, PiecesOk, SoundSolids, SoundLit}
 use Rattle.plan_test.proofs.Lists.{cutters-snoc}
 use Rattle.plan_test.proofs.Apart.{places-snoc}
-use Rattle.plan_entry.specs.Entry.{sectionOf}
+use Rattle.plan_write.specs.Written.{sectionOf}
 use Rattle.plan_entry.specs.After.{withOne}
 
 abbrev pub listOf : Bool → Plan → List Piece

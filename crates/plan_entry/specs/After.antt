@@ -9,10 +9,11 @@ use Rattle.plan.specs.declared.Head.{Head}
 use Rattle.plan.specs.Sections.{materials, lights, planWords, argsRow, tableWords}
 use Rattle.plan.specs.Records.{materialAt, lightAt, headAt}
 use Rattle.plan.specs.Plan.{Piece, Plan, cutsBy, seen, planIn, withPlane, withObject}
-use Rattle.plan_test.specs.Numbers.{materialNumber, lightNumber}
+use Rattle.record_test.specs.Numbers.{materialNumber, lightNumber}
 use Rattle.plan_test.specs.Tests.{solidsOf}
-use Rattle.plan_entry.specs.Entry.{pieceNumber, recordNumber, argCuts, newPlace, withPiece, withMaterialWords}
-use Rattle.plan_entry.specs.Entry.{withLightWords}
+use Rattle.plan_write.specs.Written.{argCuts, withPiece, withMaterialWords}
+use Rattle.plan_entry.specs.Entry.{pieceNumber, recordNumber, newPlace}
+use Rattle.plan_write.specs.Written.{withLightWords}
 
 -- a head with its first cutter at a place
 abbrev pub placed : Head → ℕ → Head

@@ -14,12 +14,13 @@ use Rattle.refusals.proofs.Lowest.{cond-zero, lower-zero, lowest-exact}
 use Rattle.plan.specs.declared.Head.{Head}
 use Rattle.plan.specs.Plan.{Piece, Plan}
 use Rattle.plan_test.specs.declared.Solids.{Solids}
-use Rattle.plan_test.specs.Numbers.{lightNumber, ownNumber, pieceOwn, pieceCuts, cutsNumber}
+use Rattle.record_test.specs.Numbers.{lightNumber, ownNumber, pieceOwn, pieceCuts, cutsNumber}
 use Rattle.plan_test.specs.Tests.{countsOk, cuttersOf, placeOk, placesOk, tallyOf, objectsNumber}
 use Rattle.plan_test.specs.Tests.{solidsPlaced, solidsOf, litNumber}
 use Rattle.plan_test.specs.Exact.{PieceOk, PlaceIs, PlacesAre, PiecesOk, CountsOk, SoundObjects, SoundSolids}
-use Rattle.plan_test.specs.Exact.{LightOk, SoundLit}
-use Rattle.plan_test.proofs.Numbers.{own-exact, light-exact, cuts-exact}
+use Rattle.record_test.specs.Exact.{LightOk}
+use Rattle.plan_test.specs.Exact.{SoundLit}
+use Rattle.record_test.proofs.Numbers.{own-exact, light-exact, cuts-exact}
 
 -- ---- pieces: what their own words get, their places, and what their cutters get
 place-exact

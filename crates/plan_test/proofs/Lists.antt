@@ -22,9 +22,9 @@ use Rattle.plan.specs.Records.{materialAt, lightIn, cutterAt, headAt}
 use Rattle.plan.specs.Plan.{Piece, cutsBy, pieceAt, piecesFrom, countOf, planOf, seen, planIn}
 use Rattle.plan_test.specs.declared.Tally.{Tally}
 use Rattle.plan_test.specs.declared.Solids.{Solids}
-use Rattle.plan_test.specs.Numbers.{lightNumber, cutterNumber, cutsNumber, ownNumber, pieceOwn}
-use Rattle.plan_test.specs.Numbers.{pieceCuts}
-use Rattle.plan_test.specs.Inside.Prims.{cutsFlat}
+use Rattle.record_test.specs.Numbers.{lightNumber, cutterNumber, cutsNumber, ownNumber, pieceOwn}
+use Rattle.record_test.specs.Numbers.{pieceCuts}
+use Rattle.plan_test.specs.Inside.Flat.{cutsFlat}
 use Rattle.plan_test.specs.Tests.{countsOk, cuttersOf, placeOk, placesOk, tallyOf, objectsNumber, solidsOf}
 use Rattle.plan_test.specs.Tests.{litNumber}
 

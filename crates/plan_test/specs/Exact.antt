@@ -1,39 +1,16 @@
 -- What a plan is where the entries left it: the statement that the tests are held to. Definitions only.
-use Prim.Native.Nat.{ℕ, _+_, _≤_, _<_}
+use Prim.Native.Nat.{ℕ, _+_, _≤_}
 use mathlib.Core.Path.{_≡_}
 use mathlib.Core.Bool.{Bool, true, false}
 use mathlib.Core.List.{List, [], _∷_}
 use lib.ListN.{length}
-use lib.Dec.{T, eqb}
-use Rattle.vec.specs.Vec.{vsub}
-use Rattle.sdf.specs.declared.Shape.{Shape}
 use Rattle.words.specs.Lists.{All}
-use Rattle.refusals.specs.Ranges.{far, coordinates, withinUpTo, radius}
-use Rattle.refusals.specs.Prims.{shapeOk, flat}
-use Rattle.plan.specs.declared.QuadLight.{QuadLight}
-use Rattle.plan.specs.declared.Cutter.{Cutter}
 use Rattle.plan.specs.declared.Head.{Head}
 use Rattle.plan.specs.Sections.{cutterPlaces, cutsMost}
 use Rattle.plan.specs.Sections as sections
 use Rattle.plan.specs.Plan.{Piece, Plan}
-use Rattle.plan_test.specs.Numbers.{dark}
+use Rattle.record_test.specs.Exact.{CutterOk, HeadOk, LightOk}
 use Rattle.plan_test.specs.Tests.{cuttersOf}
-
--- a primitive that an entry takes
-pub record PrimOk (kind : ℕ) (s : Shape) : Type 0 where
-  pub known : kind ≤ 6
-  pub ranges : T (shapeOk s)
-  pub extent : flat s ≡ false
-
-abbrev pub CutterOk : Cutter → Type 0
-CutterOk c = PrimOk (c .kind) (c .shape)
-
--- a piece's own words, in the list of planes or in that of objects
-pub record HeadOk (planes : Bool) (materials : ℕ) (h : Head) : Type 0 where
-  pub prim : PrimOk (h .kind) (h .shape)
-  pub blend : T (radius (h .blend))
-  pub material : h .material < materials
-  pub list : eqb (h .kind) 2 ≡ planes
 
 -- a piece with its cutters
 pub record PieceOk (planes : Bool) (materials : ℕ) (o : Piece) : Type 0 where
@@ -74,15 +51,6 @@ pub record SoundSolids (p : Plan) : Type 0 where
   pub planes : PiecesOk true (length (p .materials)) (p .planes)
   pub objects : PiecesOk false (length (p .materials)) (p .objects)
   pub room : cuttersOf (p .planes) + cuttersOf (p .objects) ≤ cutterPlaces
-
--- a light that an entry takes
-pub record LightOk (l : QuadLight) : Type 0 where
-  pub v0 : T (coordinates (l .v0))
-  pub v1 : T (coordinates (l .v1))
-  pub v2 : T (coordinates (l .v2))
-  pub v3 : T (coordinates (l .v3))
-  pub emit : T (withinUpTo (l .emit) far)
-  pub extent : dark (vsub (l .v1) (l .v0)) (vsub (l .v3) (l .v0)) ≡ false
 
 pub record SoundLit (p : Plan) : Type 0 where
   pub solids : SoundSolids p

@@ -1,1 +1,1 @@
-pub mod Prims
+pub mod Flat

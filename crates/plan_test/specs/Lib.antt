@@ -1,4 +1,3 @@
-pub mod Numbers
 pub mod Inside
 pub mod Tests
 pub mod Exact

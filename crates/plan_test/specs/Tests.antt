@@ -15,7 +15,7 @@ use Rattle.plan.specs.Sections as sections
 use Rattle.plan.specs.Plan.{Piece, Plan}
 use Rattle.plan_test.specs.declared.Tally.{Tally}
 use Rattle.plan_test.specs.declared.Solids.{Solids}
-use Rattle.plan_test.specs.Numbers.{lightNumber, pieceOwn, pieceCuts}
+use Rattle.record_test.specs.Numbers.{lightNumber, pieceOwn, pieceCuts}
 
 unfoldable pub countsOk : Plan → Bool
 countsOk p =

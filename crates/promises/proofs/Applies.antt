@@ -21,20 +21,22 @@ use Rattle.bvh_build.specs.Tables.{lowEnough}
 use Rattle.emitter.specs.declared.Emitted.{Emitted}
 use Rattle.emitter.specs.declared.Emitted.the-variants.{Nothing, Shows}
 use Rattle.reply.specs.Reply.{doneReply, refusedReply}
-use Rattle.wire.specs.Lent.{nodesBytes, orderBytes, shortNumber, lentOf, askTable}
-use Rattle.wire.specs.Sent.{argsBefore, planBefore, tablesBefore, treeTablesBefore, treeBefore, askBefore}
+use Rattle.wire_lengths.specs.Lengths.{nodesBytes, orderBytes, shortNumber}
+use Rattle.wire.specs.Lent.{lentOf, askTable}
+use Rattle.wire_lengths.specs.Lengths.{argsBefore, planBefore, tablesBefore, treeTablesBefore, treeBefore, askBefore}
 use Rattle.bemitondry_values.specs.Values.{floatReply, boxWords, boxReply, rootReply, acosReply, primDistReply}
 use Rattle.bemitondry_values.specs.Values.{primBoundsReply}
 use Rattle.bemitondry_values.specs.Light.{vecReply, formFactorReply, fresnelReply, f0Reply, diffuseAlbedoReply}
 use Rattle.bemitondry_emitter.specs.Emitter.{emitterNumber, emittedReply, emitterReply}
-use Rattle.bemitondry_ask.specs.Asks.{foundReply, queryNumber, queryReply, solidsAsk, distMatReply}
+use Rattle.ask_test.specs.Numbers.{queryNumber, solidsAsk}
+use Rattle.bemitondry_ask.specs.Asks.{foundReply, queryReply, distMatReply}
 use Rattle.bemitondry_ask.specs.Marches.{traceReply, shadowReply}
 use Rattle.bemitondry_light.specs.Light.{litAsk, litReply, directReply, directDiffuseReply}
 use Rattle.viewer.specs.Calls.{rootLent, acosLent, primDistLent, primBoundsLent, givenShape, formFactorLent}
 use Rattle.viewer.specs.Calls.{fresnelLent, f0Lent, diffuseAlbedoLent, emitterLent, askReply}
 use Rattle.bemitondry_tree.specs.Trees.{buildNumber, offeredTree, offerNumber}
-use Rattle.viewer.specs.Entries.{MaterialSent, LightSent, PlaneSent, ObjectSent}
-use Rattle.viewer.specs.Trees.{buildPlan, BuildSent, offerTable, OfferSent}
+use Rattle.wire_entry.specs.Entries.{MaterialSent, LightSent, PlaneSent, ObjectSent}
+use Rattle.wire_tree.specs.Trees.{buildPlan, BuildSent, offerTable, OfferSent}
 use Rattle.promises.specs.Lowest.{lowestIn}
 use Rattle.promises.specs.Applies.{ofTree, ArgsCall, bounded, argsCalls, argsApply, emitterApply, AskCall}
 use Rattle.promises.specs.Applies.{askCalls, askApply, materialApply, lightApply, planeApply, objectApply}

@@ -8,7 +8,7 @@ use Rattle.words.proofs.Runs.{length-from}
 use Rattle.plan.specs.Sections.{materials, planes, lights, objects}
 use Rattle.plan.specs.Records.{materialAt, lightIn}
 use Rattle.plan.specs.Plan.{pieceAt, piecesFrom, countOf, planOf, seen, planIn}
-use Rattle.plan_entry.specs.Entry.{sectionOf}
+use Rattle.plan_write.specs.Written.{sectionOf}
 use Rattle.promises.specs.Demand1.{listOf}
 
 pub materials-of : (w : List ℕ) → length (planIn w .materials) ≡ countOf materials w

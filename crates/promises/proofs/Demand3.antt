@@ -18,8 +18,9 @@ use Rattle.plan.specs.Plan.{seen}
 use Rattle.bvh_search.specs.Field.{hitBy}
 use Rattle.reply.specs.declared.Reply.{Reply}
 use Rattle.wire.specs.Lent.{askTable}
-use Rattle.wire.specs.Sent.{askBefore}
-use Rattle.bemitondry_ask.specs.Asks.{argVec, queryBound, queryReply, distMatReply}
+use Rattle.wire_lengths.specs.Lengths.{askBefore}
+use Rattle.ask_test.specs.Numbers.{argVec}
+use Rattle.bemitondry_ask.specs.Asks.{queryBound, queryReply, distMatReply}
 use Rattle.bemitondry_ask.specs.Marches.{traceReply, shadowReply}
 use Rattle.bemitondry_light.specs.Light.{directReply, directDiffuseReply}
 use Rattle.viewer.specs.Calls.{Ask, askReply}

@@ -4,8 +4,8 @@ use mathlib.Core.Path.{_≡_}
 use mathlib.Core.Logic.{_↔_}
 use mathlib.Core.List.{List}
 use lib.ListN.{length}
-use Rattle.wire.specs.Lent.{planBytes, nodesBytes, orderBytes, outBytes, shortNumber}
-use Rattle.wire.specs.Sent.{argsBefore, planBefore, tablesBefore, treeTablesBefore}
+use Rattle.wire_lengths.specs.Lengths.{planBytes, nodesBytes, orderBytes, outBytes, shortNumber}
+use Rattle.wire_lengths.specs.Lengths.{argsBefore, planBefore, tablesBefore, treeTablesBefore}
 use Rattle.promises.specs.Bytes.{FullTree}
 use Rattle.promises.specs.Demand1.{Lent}
 use Rattle.promises.proofs.Exact.{lower-exact, unless-exact, leb-exact}

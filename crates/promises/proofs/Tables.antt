@@ -17,7 +17,8 @@ use Rattle.plan.specs.Sections.{planWords, argsWords, nodesWords, orderPlaces, 
 use Rattle.plan.specs.Records.{wordOf, floatOf}
 use Rattle.plan.specs.Plan.{seen}
 use Rattle.bvh_rules.specs.Nodes.{nodesOf, orderOf}
-use Rattle.wire.specs.Lent.{planBytes, lentOf, usedOf, tableOf, planTable}
+use Rattle.wire_lengths.specs.Lengths.{planBytes}
+use Rattle.wire.specs.Lent.{lentOf, usedOf, tableOf, planTable}
 use Rattle.promises.proofs.Cases.{either}
 
 -- ---- words of bytes

@@ -8,8 +8,8 @@ use Rattle.reply.specs.declared.Reply.{Reply}
 use Rattle.bemitondry_entry.specs.Entries.{EntersTable}
 use Rattle.bemitondry_tree.specs.Trees.{BuildLeaves, OfferLeaves}
 use Rattle.wire.specs.Sent.{Sent}
-use Rattle.viewer.specs.Entries.{EntrySent, ObjectOn}
-use Rattle.viewer.specs.Trees.{BuildOn, OfferOn}
+use Rattle.wire_entry.specs.Entries.{EntrySent, ObjectOn}
+use Rattle.wire_tree.specs.Trees.{BuildOn, OfferOn}
 
 -- a call that leaves only an answer: its promise is one equation, of its reply
 pub only : {A : Type 0} {is r s : A} → r ≡ is → s ≡ is → r ≡ s

@@ -19,23 +19,27 @@ use Rattle.refusals.specs.Prims.{primNumber}
 use Rattle.plan.specs.Sections.{Section, argsRow, cutterPlaces, materials, lights}
 use Rattle.plan.specs.Records.{materialAt, lightAt, headAt}
 use Rattle.plan.specs.Plan.{Plan, countOf, planOf, seen, planIn}
-use Rattle.plan_test.specs.Numbers.{materialNumber, lightNumber, ownNumber}
+use Rattle.record_test.specs.Numbers.{materialNumber, lightNumber, ownNumber}
 use Rattle.plan_test.specs.Tests.{countsOk, objectsNumber, solidsOf, litNumber}
-use Rattle.plan_entry.specs.Entry.{argCuts, argCutsNumber, sectionOf}
+use Rattle.plan_write.specs.Written.{argCuts, sectionOf}
+use Rattle.plan_entry.specs.Entry.{argCutsNumber}
 use Rattle.bvh_build.specs.Tables.{lowEnough}
 use Rattle.panel.specs.Panels.{panelsNumber}
 use Rattle.reply.specs.declared.Reply.{Reply}
-use Rattle.wire.specs.Lent.{planBytes, nodesBytes, orderBytes, outBytes, shortNumber, lentOf, givenFloat, givenVec}
+use Rattle.wire_lengths.specs.Lengths.{planBytes, nodesBytes, orderBytes, outBytes, shortNumber}
+use Rattle.wire.specs.Lent.{lentOf, givenFloat, givenVec}
 use Rattle.wire.specs.Lent.{planTable}
 use Rattle.bemitondry_values.specs.Light.{quadOk}
 use Rattle.bemitondry_emitter.specs.Emitter.{recordsOk, lentLights, aimOk}
 use Rattle.bemitondry_tree.specs.Trees.{offeredTree}
-use Rattle.bemitondry_ask.specs.Asks.{argVec, argFloat, treeNumber, queryReply, distMatReply}
-use Rattle.bemitondry_ask.specs.Marches.{rayGiven, traceReply, shadowReply}
+use Rattle.ask_test.specs.Numbers.{argVec, argFloat, treeNumber}
+use Rattle.bemitondry_ask.specs.Asks.{queryReply, distMatReply}
+use Rattle.ask_test.specs.Numbers.{rayGiven}
+use Rattle.bemitondry_ask.specs.Marches.{traceReply, shadowReply}
 use Rattle.bemitondry_light.specs.Light.{siteOk, panels, argMaterial, directReply, directDiffuseReply}
 use Rattle.viewer.specs.Calls.{rootLent, acosLent, primDistLent, primBoundsLent, givenShape, givenQuad, givenMaterial}
 use Rattle.viewer.specs.Calls.{formFactorLent, fresnelLent, f0Lent, diffuseAlbedoLent, Ask}
-use Rattle.viewer.specs.Trees.{buildPlan, offerTable}
+use Rattle.wire_tree.specs.Trees.{buildPlan, offerTable}
 
 -- ---- by lengths; out is the length of `out`
 abbrev pub ofArgs : ℕ → List ℕ → ℕ → List ℕ

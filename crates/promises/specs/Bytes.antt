@@ -8,7 +8,8 @@ use Rattle.plan.specs.Sections.{nodesWords, orderPlaces}
 use Rattle.plan.specs.Plan.{Plan, planIn}
 use Rattle.bvh_boxes.specs.Boxes.{boxesOf}
 use Rattle.bvh_rules.specs.Rules.{Tree, Holds, Accepted, MeetsRules}
-use Rattle.wire.specs.Lent.{planBytes, nodesBytes, orderBytes, planTable}
+use Rattle.wire_lengths.specs.Lengths.{planBytes, nodesBytes, orderBytes}
+use Rattle.wire.specs.Lent.{planTable}
 
 -- ---- the plan that a call reads, with so many bytes of arguments after it
 abbrev pub planWith : ℕ → List ℕ → List ℕ → Plan

@@ -17,13 +17,16 @@ use Rattle.plan.specs.declared.Material.{Material}
 use Rattle.plan.specs.Records.{materialAt, lightAt, headAt}
 use Rattle.plan.specs.Plan.{Plan, Piece, cutsBy, seen, planIn, withMaterial, withLight}
 use Rattle.plan_test.specs.Tests.{countsOk, cuttersOf, objectsNumber, solidsOf, litNumber}
-use Rattle.plan_test.specs.Exact.{CutterOk, HeadOk, LightOk, CountsOk, SoundSolids, SoundLit}
-use Rattle.plan_entry.specs.Entry.{argCuts, sectionOf, newPlace}
+use Rattle.record_test.specs.Exact.{CutterOk, HeadOk, LightOk}
+use Rattle.plan_test.specs.Exact.{CountsOk, SoundSolids, SoundLit}
+use Rattle.plan_write.specs.Written.{argCuts, sectionOf}
+use Rattle.plan_entry.specs.Entry.{newPlace}
 use Rattle.plan_entry.specs.After.{givenPiece, withOne}
 use Rattle.reply.specs.Reply.{oneWord, refusedReply}
-use Rattle.wire.specs.Lent.{nodesBytes, orderBytes, outBytes, planTable}
+use Rattle.wire_lengths.specs.Lengths.{nodesBytes, orderBytes, outBytes}
+use Rattle.wire.specs.Lent.{planTable}
 use Rattle.wire.specs.Sent.{clearedFront}
-use Rattle.viewer.specs.Entries.{MaterialSent, LightSent, PlaneSent, ObjectSent}
+use Rattle.wire_entry.specs.Entries.{MaterialSent, LightSent, PlaneSent, ObjectSent}
 use Rattle.promises.specs.Bytes.{planWith, planAt, FullPlan, FullTree}
 
 -- ---- what an entry takes

@@ -28,13 +28,15 @@ use Rattle.bvh_search.specs.Search.{searched}
 use Rattle.bvh_search.specs.Field.{fieldBy}
 use Rattle.bvh_search.specs.Demand.{In, Over, Demand}
 use Rattle.reply.specs.Reply.{oneWord}
-use Rattle.bemitondry_ask.specs.Asks.{argVec, queryBound, searchedReply, queryReply, distMatReply}
+use Rattle.ask_test.specs.Numbers.{argVec}
+use Rattle.bemitondry_ask.specs.Asks.{queryBound, searchedReply, queryReply, distMatReply}
 use Rattle.bemitondry_ask.specs.Marches.{traceReply, shadowReply}
 use Rattle.bemitondry_light.specs.Light.{directReply, directDiffuseReply}
-use Rattle.wire.specs.Lent.{outBytes, askTable}
+use Rattle.wire_lengths.specs.Lengths.{outBytes}
+use Rattle.wire.specs.Lent.{askTable}
 use Rattle.wire.specs.Sent.{Sent}
 use Rattle.viewer.specs.Calls.{Ask, askReply}
-use Rattle.viewer.specs.Trees.{BuildSent, OfferSent}
+use Rattle.wire_tree.specs.Trees.{BuildSent, OfferSent}
 use Rattle.promises.specs.Bytes.{planAt, objectCount, HoldsTree, AcceptedTree, TreeRules, FullPlan, FullTree}
 
 -- ---- build and offer, which send n and leave nodes′, order′ and out′

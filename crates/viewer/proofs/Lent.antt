@@ -1,21 +1,17 @@
 -- A call on loaded tables is the call on what the lent bytes stand for. One law for every call of a kind. Assumes
 -- nothing.
 use Prim.Native.Nat.{ℕ}
-use mathlib.Core.Path.{_≡_, ap, _∙_, subst}
+use mathlib.Core.Path.{_≡_, _∙_}
 use mathlib.Core.List.{List}
 use lib.ListN.{length}
 use lib.Ieee.{Float}
 use Rattle.plan.specs.Plan.{seen}
 use Rattle.reply.specs.declared.Reply.{Reply}
 use Rattle.wire.specs.Lent.{askTable}
-use Rattle.wire.specs.Sent.{askBefore, Sent}
+use Rattle.wire_lengths.specs.Lengths.{askBefore}
+use Rattle.wire.specs.Sent.{Sent}
+use Rattle.wire.proofs.Replies.{sent-as}
 use Rattle.viewer.specs.Calls.{Ask, askReply}
-
--- what is sent is the reply, which is what it should be
-pub sent-as
-    : {r s : Reply} {out : List ℕ} {n : ℕ} {out′ : List ℕ} → r ≡ s → Sent r out n out′
-    → Sent s out n out′
-sent-as {out = out} {n = n} {out′ = out′} e h = subst (λ (x : Reply). Sent x out n out′) e h
 
 pub ask-sent : (call : Ask) (need : ℕ) (plan nodes order : List ℕ) (tree : ℕ) (args out w : List ℕ)
     (f : List Float) (before : ℕ) (r : Reply) (n : ℕ) (out′ : List ℕ)

@@ -11,7 +11,7 @@ use Rattle.plan.specs.Plan.{seen}
 use Rattle.quad.specs.declared.Quad.{Quad}
 use Rattle.reply.specs.declared.Reply.{Reply}
 use Rattle.wire.specs.Lent.{lentOf, givenFloat, givenVec, askTable}
-use Rattle.wire.specs.Sent.{argsBefore, askBefore}
+use Rattle.wire_lengths.specs.Lengths.{argsBefore, askBefore}
 use Rattle.bemitondry_values.specs.Values.{rootReply, acosReply, primDistReply, primBoundsReply}
 use Rattle.bemitondry_emitter.specs.Emitter.{emitterReply}
 use Rattle.bemitondry_values.specs.Light.{formFactorReply, fresnelReply, f0Reply, diffuseAlbedoReply}

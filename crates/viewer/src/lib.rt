@@ -1,5 +1,5 @@
-// The calls that the Rust viewer makes, on bytes: what is lent is loaded, the call made, and what it leaves stored and
-// sent.
+// The calls that the Rust viewer makes, on bytes: what is lent is loaded, the call made, and its reply sent. Those that
+// write tables stand whole in wire_entry and wire_tree; the library exports only what stands here.
 ghost use mathlib.Core.Path.{_≡_};
 ghost use lib.ListN.{length};
 ghost use Rattle.wire.specs.Sent.{Sent};
@@ -9,8 +9,8 @@ ghost use Rattle.bemitondry_light.specs.Light.{directReply, directDiffuseReply}
 ghost use Rattle.viewer.specs.Calls.{rootLent, acosLent, primDistLent, primBoundsLent, askReply};
 ghost use Rattle.viewer.specs.Calls.{formFactorLent, fresnelLent, givenMaterial, f0Lent, diffuseAlbedoLent};
 ghost use Rattle.viewer.specs.Calls.{emitterLent};
-ghost use Rattle.viewer.specs.Entries.{MaterialSent, LightSent, PlaneSent, ObjectSent};
-ghost use Rattle.viewer.specs.Trees.{buildStores, BuildSent, OfferSent};
+ghost use Rattle.wire_entry.specs.Entries.{MaterialSent, LightSent, PlaneSent, ObjectSent};
+ghost use Rattle.wire_tree.specs.Trees.{BuildSent, OfferSent};
 use plan::Material;
 use quad::Quad;
 
@@ -19,7 +19,7 @@ pub extern "C" fn viewer_root(args: &[u8], out: &mut [u8]) -> u32
     ensures { λ n. ⌜ Sent (rootLent (now (args .entry)) (length (now (out .entry)))) (now (out .entry)) n
         (now (out .exit)) ⌝ }
 {
-    let n = wire::args_before(4, args.len(), out.len());
+    let n = wire_lengths::args_before(4, args.len(), out.len());
     let a = wire::lent(args, 4);
     wire::send(bemitondry_values::root(n, wire::float_at(a, 0)), out)
 }
@@ -29,7 +29,7 @@ pub extern "C" fn viewer_acos(args: &[u8], out: &mut [u8]) -> u32
     ensures { λ n. ⌜ Sent (acosLent (now (args .entry)) (length (now (out .entry)))) (now (out .entry)) n
         (now (out .exit)) ⌝ }
 {
-    let n = wire::args_before(4, args.len(), out.len());
+    let n = wire_lengths::args_before(4, args.len(), out.len());
     let a = wire::lent(args, 4);
     wire::send(bemitondry_values::acos(n, wire::float_at(a, 0)), out)
 }
@@ -39,7 +39,7 @@ pub extern "C" fn viewer_prim_dist(args: &[u8], out: &mut [u8]) -> u32
     ensures { λ n.
         ⌜ Sent (primDistLent (now (args .entry)) (length (now (out .entry)))) (now (out .entry)) n (now (out .exit)) ⌝ }
 {
-    let n = wire::args_before(48, args.len(), out.len());
+    let n = wire_lengths::args_before(48, args.len(), out.len());
     let a = wire::lent(args, 48);
     let r = bemitondry_values::prim_dist(
         n,
@@ -59,7 +59,7 @@ pub extern "C" fn viewer_prim_bounds(args: &[u8], out: &mut [u8]) -> u32
         ⌜ Sent (primBoundsLent (now (args .entry)) (length (now (out .entry)))) (now (out .entry)) n
         (now (out .exit)) ⌝ }
 {
-    let n = wire::args_before(36, args.len(), out.len());
+    let n = wire_lengths::args_before(36, args.len(), out.len());
     let a = wire::lent(args, 36);
     let r = bemitondry_values::prim_bounds(
         n,
@@ -78,7 +78,7 @@ pub extern "C" fn viewer_form_factor(args: &[u8], out: &mut [u8]) -> u32
         ⌜ Sent (formFactorLent (now (args .entry)) (length (now (out .entry)))) (now (out .entry)) n
         (now (out .exit)) ⌝ }
 {
-    let n = wire::args_before(48, args.len(), out.len());
+    let n = wire_lengths::args_before(48, args.len(), out.len());
     let a = wire::lent(args, 48);
     let q = Quad {
         v0: wire::vec_at(a, 0),
@@ -94,7 +94,7 @@ pub extern "C" fn viewer_fresnel(args: &[u8], out: &mut [u8]) -> u32
     ensures { λ n.
         ⌜ Sent (fresnelLent (now (args .entry)) (length (now (out .entry)))) (now (out .entry)) n (now (out .exit)) ⌝ }
 {
-    let n = wire::args_before(16, args.len(), out.len());
+    let n = wire_lengths::args_before(16, args.len(), out.len());
     let a = wire::lent(args, 16);
     let r = bemitondry_values::fresnel(n, wire::float_at(a, 0), wire::vec_at(a, 1));
     wire::send(r, out)
@@ -116,7 +116,7 @@ pub extern "C" fn viewer_f0(args: &[u8], out: &mut [u8]) -> u32
     ensures { λ n.
         ⌜ Sent (f0Lent (now (args .entry)) (length (now (out .entry)))) (now (out .entry)) n (now (out .exit)) ⌝ }
 {
-    let n = wire::args_before(20, args.len(), out.len());
+    let n = wire_lengths::args_before(20, args.len(), out.len());
     let a = wire::lent(args, 20);
     wire::send(bemitondry_values::f0(n, material_in(a)), out)
 }
@@ -127,7 +127,7 @@ pub extern "C" fn viewer_diffuse_albedo(args: &[u8], out: &mut [u8]) -> u32
         ⌜ Sent (diffuseAlbedoLent (now (args .entry)) (length (now (out .entry)))) (now (out .entry)) n
         (now (out .exit)) ⌝ }
 {
-    let n = wire::args_before(20, args.len(), out.len());
+    let n = wire_lengths::args_before(20, args.len(), out.len());
     let a = wire::lent(args, 20);
     wire::send(bemitondry_values::diffuse_albedo(n, material_in(a)), out)
 }
@@ -138,7 +138,7 @@ pub extern "C" fn viewer_emitter_hit(lights: &[u8], args: &[u8], out: &mut [u8])
         ⌜ Sent (emitterLent (now (lights .entry)) (now (args .entry)) (length (now (out .entry)))) (now (out .entry)) n
         (now (out .exit)) ⌝ }
 {
-    let n = wire::args_before(28, args.len(), out.len());
+    let n = wire_lengths::args_before(28, args.len(), out.len());
     let a = wire::lent(args, 28);
     let r = bemitondry_emitter::emitter_hit(
         n,
@@ -168,7 +168,7 @@ pub extern "C" fn viewer_query(
     let mut ws = [0u32; plan::TABLE];
     let mut fs = [0.0f32; plan::TABLE];
     wire::load_ask(20, plan, nodes, order, tree, args, &mut ws, &mut fs);
-    let n = wire::ask_before(
+    let n = wire_lengths::ask_before(
         20,
         plan.len(),
         nodes.len(),
@@ -198,7 +198,7 @@ pub extern "C" fn viewer_dist_mat(
     let mut ws = [0u32; plan::TABLE];
     let mut fs = [0.0f32; plan::TABLE];
     wire::load_ask(12, plan, nodes, order, tree, args, &mut ws, &mut fs);
-    let n = wire::ask_before(
+    let n = wire_lengths::ask_before(
         12,
         plan.len(),
         nodes.len(),
@@ -228,7 +228,7 @@ pub extern "C" fn viewer_trace(
     let mut ws = [0u32; plan::TABLE];
     let mut fs = [0.0f32; plan::TABLE];
     wire::load_ask(32, plan, nodes, order, tree, args, &mut ws, &mut fs);
-    let n = wire::ask_before(
+    let n = wire_lengths::ask_before(
         32,
         plan.len(),
         nodes.len(),
@@ -258,7 +258,7 @@ pub extern "C" fn viewer_soft_shadow(
     let mut ws = [0u32; plan::TABLE];
     let mut fs = [0.0f32; plan::TABLE];
     wire::load_ask(36, plan, nodes, order, tree, args, &mut ws, &mut fs);
-    let n = wire::ask_before(
+    let n = wire_lengths::ask_before(
         36,
         plan.len(),
         nodes.len(),
@@ -288,7 +288,7 @@ pub extern "C" fn viewer_direct(
     let mut ws = [0u32; plan::TABLE];
     let mut fs = [0.0f32; plan::TABLE];
     wire::load_ask(56, plan, nodes, order, tree, args, &mut ws, &mut fs);
-    let n = wire::ask_before(
+    let n = wire_lengths::ask_before(
         56,
         plan.len(),
         nodes.len(),
@@ -318,7 +318,7 @@ pub extern "C" fn viewer_direct_diffuse(
     let mut ws = [0u32; plan::TABLE];
     let mut fs = [0.0f32; plan::TABLE];
     wire::load_ask(36, plan, nodes, order, tree, args, &mut ws, &mut fs);
-    let n = wire::ask_before(
+    let n = wire_lengths::ask_before(
         36,
         plan.len(),
         nodes.len(),
@@ -336,13 +336,7 @@ pub extern "C" fn viewer_add_material(plan: &mut [u8], args: &[u8], out: &mut [u
         ⌜ MaterialSent (now (plan .entry)) (now (args .entry)) (now (out .entry)) n (now (plan .exit))
         (now (out .exit)) ⌝ }
 {
-    let mut ws = [0u32; plan::TABLE];
-    let mut fs = [0.0f32; plan::TABLE];
-    wire::load_plan(20, plan, args, &mut ws, &mut fs);
-    let n = wire::plan_before(plan.len(), 20, args.len(), out.len());
-    let r = bemitondry_entry::add_material(n, &mut ws, &fs);
-    wire::store_plan(r.number == 0, &ws, plan);
-    wire::send(r, out)
+    wire_entry::add_material(plan, args, out)
 }
 
 #[no_mangle]
@@ -351,13 +345,7 @@ pub extern "C" fn viewer_add_light(plan: &mut [u8], args: &[u8], out: &mut [u8])
         ⌜ LightSent (now (plan .entry)) (now (args .entry)) (now (out .entry)) n (now (plan .exit))
         (now (out .exit)) ⌝ }
 {
-    let mut ws = [0u32; plan::TABLE];
-    let mut fs = [0.0f32; plan::TABLE];
-    wire::load_plan(60, plan, args, &mut ws, &mut fs);
-    let n = wire::plan_before(plan.len(), 60, args.len(), out.len());
-    let r = bemitondry_entry::add_light(n, &mut ws, &fs);
-    wire::store_plan(r.number == 0, &ws, plan);
-    wire::send(r, out)
+    wire_entry::add_light(plan, args, out)
 }
 
 #[no_mangle]
@@ -366,13 +354,7 @@ pub extern "C" fn viewer_add_plane(plan: &mut [u8], args: &[u8], out: &mut [u8])
         ⌜ PlaneSent (now (plan .entry)) (now (args .entry)) (now (out .entry)) n (now (plan .exit))
         (now (out .exit)) ⌝ }
 {
-    let mut ws = [0u32; plan::TABLE];
-    let mut fs = [0.0f32; plan::TABLE];
-    wire::load_plan(64, plan, args, &mut ws, &mut fs);
-    let n = wire::plan_before(plan.len(), 64, args.len(), out.len());
-    let r = bemitondry_entry::add_piece(n, true, &mut ws, &fs, args.len());
-    wire::store_plan(r.number == 0, &ws, plan);
-    wire::send(r, out)
+    wire_entry::add_plane(plan, args, out)
 }
 
 #[no_mangle]
@@ -387,32 +369,7 @@ pub extern "C" fn viewer_add_object(
         ⌜ ObjectSent (now (plan .entry)) (now (nodes .entry)) (now (order .entry)) (now (args .entry))
         (now (out .entry)) n (now (plan .exit)) (now (nodes .exit)) (now (order .exit)) (now (out .exit)) ⌝ }
 {
-    let mut ws = [0u32; plan::TABLE];
-    let mut fs = [0.0f32; plan::TABLE];
-    wire::load_plan(64, plan, args, &mut ws, &mut fs);
-    let n = wire::tree_tables_before(
-        plan.len(),
-        nodes.len(),
-        order.len(),
-        64,
-        args.len(),
-        out.len(),
-    );
-    let r = bemitondry_entry::add_piece(n, false, &mut ws, &fs, args.len());
-    wire::store_plan(r.number == 0, &ws, plan);
-    wire::clear(r.number == 0, nodes, wire::NODES_BYTES);
-    wire::clear(r.number == 0, order, wire::ORDER_BYTES);
-    wire::send(r, out)
-}
-
-// A build leaves its tables where it is done, and zeros where the tree is too deep.
-fn build_stores(number: u32) -> bool
-    ensures { λ r. ⌜ r ≡ buildStores number ⌝ }
-{
-    if number == 0 {
-        return true;
-    }
-    number == refusals::TOO_DEEP
+    wire_entry::add_object(plan, nodes, order, args, out)
 }
 
 #[no_mangle]
@@ -426,17 +383,7 @@ pub extern "C" fn viewer_build(
         ⌜ BuildSent (now (plan .entry)) (now (nodes .entry)) (now (order .entry)) (now (out .entry)) n
         (now (nodes .exit)) (now (order .exit)) (now (out .exit)) ⌝ }
 {
-    let mut ws = [0u32; plan::TABLE];
-    let mut fs = [0.0f32; plan::TABLE];
-    wire::load_plan(0, plan, wire::none(plan), &mut ws, &mut fs);
-    let n = wire::tree_tables_before(plan.len(), nodes.len(), order.len(), 0, 0, out.len());
-    let mut nw = [0u32; plan::NODES_WORDS];
-    let mut ow = [0u32; plan::ORDER_WORDS];
-    let r = bemitondry_tree::build(n, &ws, &fs, &mut nw, &mut ow);
-    let stores = build_stores(r.number);
-    wire::store_nodes(stores, &nw, nodes);
-    wire::store_order(stores, &ow, order);
-    wire::send(r, out)
+    wire_tree::build(plan, nodes, order, out)
 }
 
 // The tree is offered in the tables given (its nodes) and ranks (its order).
@@ -453,17 +400,5 @@ pub extern "C" fn viewer_offer(
         ⌜ OfferSent (now (plan .entry)) (now (nodes .entry)) (now (order .entry)) (now (given .entry))
         (now (ranks .entry)) (now (out .entry)) n (now (nodes .exit)) (now (order .exit)) (now (out .exit)) ⌝ }
 {
-    let mut ws = [0u32; plan::TABLE];
-    let mut fs = [0.0f32; plan::TABLE];
-    wire::load_ask(0, plan, given, ranks, 1, wire::none(plan), &mut ws, &mut fs);
-    let n = refusals::lower(
-        wire::tree_tables_before(plan.len(), nodes.len(), order.len(), 0, 0, out.len()),
-        wire::tables_before(given.len(), ranks.len()),
-    );
-    let mut nw = [0u32; plan::NODES_WORDS];
-    let mut ow = [0u32; plan::ORDER_WORDS];
-    let r = bemitondry_tree::offer(n, &ws, &fs, &mut nw, &mut ow);
-    wire::store_nodes(r.number == 0, &nw, nodes);
-    wire::store_order(r.number == 0, &ow, order);
-    wire::send(r, out)
+    wire_tree::offer(plan, nodes, order, given, ranks, out)
 }

@@ -9,25 +9,7 @@ use lib.Ieee.{Float, binary32, ofBits}
 use Rattle.vec.specs.declared.Vec3.{Vec3}
 use Rattle.words.specs.Words.{wordAt, wordsOf}
 use Rattle.plan.specs.Sections.{planWords, argsWords, nodesWords, orderPlaces}
-use Rattle.refusals.specs.Refusals.{noRoom, unless}
-
--- "plan 22,288 words, 89,152 bytes; nodes 4,599 words, 18,396 bytes; order 256 words, 1,024 bytes", and sixteen words
--- of an answer
-abbrev pub planBytes : ℕ
-planBytes = 89152
-
-abbrev pub nodesBytes : ℕ
-nodesBytes = 18396
-
-abbrev pub orderBytes : ℕ
-orderBytes = 1024
-
-abbrev pub outBytes : ℕ
-outBytes = 64
-
--- a table of so many bytes that is short of its full size gets 2
-unfoldable pub shortNumber : ℕ → ℕ → ℕ
-shortNumber bytes full = unless noRoom (leb full bytes)
+use Rattle.wire_lengths.specs.Lengths.{planBytes, nodesBytes, orderBytes}
 
 -- a short table stands as all zero: none of its bytes are there
 unfoldable pub lentOf : List ℕ → ℕ → List ℕ

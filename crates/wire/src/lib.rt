@@ -1,11 +1,10 @@
-// The boundary's tables: which are short, how what is lent is loaded into one table of words and floats, and how it is
-// stored and a reply sent.
+// The boundary's tables: how what is lent is loaded into one table of words and floats, and how it is stored and a reply
+// sent.
 ghost use mathlib.Core.Path.{_≡_};
 ghost use mathlib.Core.List.{[]};
 ghost use Rattle.plan.specs.Plan.{seen};
-ghost use Rattle.wire.specs.Lent.{shortNumber, lentOf, usedOf, givenFloat, givenVec, loadedPart, tableOf};
+ghost use Rattle.wire.specs.Lent.{lentOf, usedOf, givenFloat, givenVec, loadedPart, tableOf};
 ghost use Rattle.wire.specs.Lent.{planTable, askTable};
-ghost use Rattle.wire.specs.Sent.{argsBefore, planBefore, tablesBefore, treeTablesBefore, treeBefore, askBefore};
 ghost use Rattle.wire.specs.Sent.{storedFront, storedPlan, storedTable, clearedFront, cleared, Sent};
 use plan::Floats;
 use plan::Nodes;
@@ -13,22 +12,6 @@ use plan::Order;
 use plan::Words;
 use reply::Reply;
 use vec::Vec3;
-
-// Bytes of a plan, of nodes, of an order, and of an answer.
-pub const PLAN_BYTES: usize = 89152;
-
-pub const NODES_BYTES: usize = 18396;
-
-pub const ORDER_BYTES: usize = 1024;
-
-pub const OUT_BYTES: usize = 64;
-
-// 2 where a table is short of its full size.
-fn short(bytes: usize, full: usize) -> u32
-    ensures { λ r. ⌜ r ≡ shortNumber bytes full ⌝ }
-{
-    refusals::unless(refusals::NO_ROOM, full <= bytes)
-}
 
 // The table, or nothing of it where it is short: its words are 0 then.
 pub fn lent(t: &[u8], full: usize) -> &[u8]
@@ -107,7 +90,7 @@ pub fn load_plan(need: usize, plan: &[u8], args: &[u8], ws: &mut Words, fs: &mut
         × (now (fs .exit) ≡ seen (now (ws .exit))) ⌝ }
 {
     load(
-        lent(plan, PLAN_BYTES),
+        lent(plan, wire_lengths::PLAN_BYTES),
         lent(args, need),
         none(plan),
         none(plan),
@@ -133,78 +116,13 @@ pub fn load_ask(
         × (now (fs .exit) ≡ seen (now (ws .exit))) ⌝ }
 {
     load(
-        lent(plan, PLAN_BYTES),
+        lent(plan, wire_lengths::PLAN_BYTES),
         lent(args, need),
-        used(tree, nodes, NODES_BYTES),
-        used(tree, order, ORDER_BYTES),
+        used(tree, nodes, wire_lengths::NODES_BYTES),
+        used(tree, order, wire_lengths::ORDER_BYTES),
         ws,
         fs,
     );
-}
-
-// What applies by the lengths of arguments and answer.
-pub fn args_before(need: usize, args: usize, out: usize) -> u32
-    ensures { λ r. ⌜ r ≡ argsBefore need args out ⌝ }
-{
-    refusals::lower(short(args, need), short(out, OUT_BYTES))
-}
-
-// The same, with the plan's.
-pub fn plan_before(plan: usize, need: usize, args: usize, out: usize) -> u32
-    ensures { λ r. ⌜ r ≡ planBefore plan need args out ⌝ }
-{
-    refusals::lower(short(plan, PLAN_BYTES), args_before(need, args, out))
-}
-
-// What applies by the lengths of a tree's two tables.
-pub fn tables_before(nodes: usize, order: usize) -> u32
-    ensures { λ r. ⌜ r ≡ tablesBefore nodes order ⌝ }
-{
-    refusals::lower(short(nodes, NODES_BYTES), short(order, ORDER_BYTES))
-}
-
-// What applies to a call that writes the tree's tables.
-pub fn tree_tables_before(
-    plan: usize,
-    nodes: usize,
-    order: usize,
-    need: usize,
-    args: usize,
-    out: usize,
-) -> u32
-    ensures { λ r. ⌜ r ≡ treeTablesBefore plan nodes order need args out ⌝ }
-{
-    refusals::lower(
-        plan_before(plan, need, args, out),
-        tables_before(nodes, order),
-    )
-}
-
-// What applies by `tree`: 1 is the tree, 0 the plain list.
-fn tree_before(tree: u32, nodes: usize, order: usize) -> u32
-    ensures { λ r. ⌜ r ≡ treeBefore tree nodes order ⌝ }
-{
-    if tree == 1 {
-        return tables_before(nodes, order);
-    }
-    refusals::unless(refusals::BAD_NUMBER, tree == 0)
-}
-
-pub fn ask_before(
-    need: usize,
-    plan: usize,
-    nodes: usize,
-    order: usize,
-    tree: u32,
-    args: usize,
-    out: usize,
-) -> u32
-    ensures { λ r. ⌜ r ≡ askBefore need plan nodes order tree args out ⌝ }
-{
-    refusals::lower(
-        plan_before(plan, need, args, out),
-        tree_before(tree, nodes, order),
-    )
 }
 
 // The first n words of a table are stored.

@@ -7,8 +7,10 @@ use Rattle.bemitondry_ask.proofs.traced_reply.Tie as tie
 returns : tie.Need-returns
 unfolding tracedReply
 returns c =
-    let k = c .before .before .before .before .before .before in
-    rw (k .before .t .given .1) (cc)
+    let b4 = c .before in let b3 = b4 .before in let b2 = b3 .before in let b1 = b2 .before in
+    let k = b1 .before .before in
+    rw (k .before .t .given .1, c .done .ensures, b4 .bits4 .ensures, b3 .bits3 .ensures)
+    (rw (b2 .bits2 .ensures, b1 .bits .ensures))
 
 returns-2 : tie.Need-returns-2
 unfolding tracedReply

@@ -7,7 +7,7 @@ use native.Mathlib.Omega.{arith}
 use Rattle.words.specs.Lists.{listFrom}
 use Rattle.refusals.specs.Refusals.{lowestOf}
 use Rattle.refusals.proofs.Lowest.{lowest-start, lowest-more}
-use Rattle.plan_test.specs.Numbers.{lightNumber}
+use Rattle.record_test.specs.Numbers.{lightNumber}
 use Rattle.bemitondry_emitter.specs.Emitter.{lentLight}
 use Rattle.bemitondry_emitter.proofs.lights_number.Statement.{statement}
 use Rattle.bemitondry_emitter.proofs.lights_number.Tie as tie

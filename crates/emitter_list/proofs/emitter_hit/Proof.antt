@@ -49,7 +49,7 @@ use Rattle.vec.specs.declared.Vec3.{Vec3}
 use Rattle.refusals.specs.Refusals.{lower, lowestOf}
 use Rattle.refusals.proofs.Lowest.{unless-zero, lower-zero, lower-none}
 use Rattle.plan.specs.declared.QuadLight.{QuadLight}
-use Rattle.plan_test.specs.Numbers.{lightNumber}
+use Rattle.record_test.specs.Numbers.{lightNumber}
 use Rattle.emitter.specs.declared.Emitted.{Emitted}
 use Rattle.emitter.specs.Emitter.{emitterOf}
 use Rattle.reply.specs.declared.Reply.{Reply}

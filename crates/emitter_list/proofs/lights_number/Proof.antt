@@ -48,7 +48,7 @@ use denote.Exit.{yes}
 use Rattle.refusals.specs.Refusals.{lower, lowestOf}
 use Rattle.refusals.proofs.Lowest.{lower-none, lower-assoc}
 use Rattle.plan.specs.declared.QuadLight.{QuadLight}
-use Rattle.plan_test.specs.Numbers.{lightNumber}
+use Rattle.record_test.specs.Numbers.{lightNumber}
 use Rattle.plan.proofs.QuadLight as T
 use Rattle.plan.proofs.QuadLight.Laws as T′
 use Rattle.emitter_list.proofs.Walking.{half, word, slice, tail, State, Nearer, nearer-wf, scaled, dark}

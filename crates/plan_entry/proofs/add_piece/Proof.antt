@@ -1,6 +1,6 @@
 -- `plan_entry::add_piece` meets its contract: by the test of its number. Assumes nothing.
 use borrow.Author.Tests.{eq-eqb, ne-eqb}
-use Rattle.plan_entry.proofs.Lists.{adds-piece}
+use Rattle.plan_entry.proofs.Answers.{adds-piece}
 use borrow.Author.Needs.{needs}
 use Rattle.plan_entry.proofs.add_piece.Statement.{statement}
 use Rattle.plan_entry.proofs.add_piece.Tie as tie

@@ -8,7 +8,7 @@ use Rattle.words.specs.Lists.{listFrom}
 use Rattle.refusals.specs.Refusals.{lowestOf}
 use Rattle.refusals.proofs.Lowest.{lowest-start, lowest-more}
 use Rattle.plan.specs.Records.{lightIn}
-use Rattle.plan_test.specs.Numbers.{lightNumber}
+use Rattle.record_test.specs.Numbers.{lightNumber}
 use Rattle.plan_test.proofs.lights_number.Statement.{statement}
 use Rattle.plan_test.proofs.lights_number.Tie as tie
 

@@ -7,7 +7,7 @@ use Rattle.words.specs.Lists.{listFrom}
 use Rattle.refusals.specs.Refusals.{lowestOf}
 use Rattle.refusals.proofs.Lowest.{lowest-start, lowest-more}
 use Rattle.plan.specs.Plan.{pieceAt, piecesFrom}
-use Rattle.plan_test.specs.Numbers.{pieceCuts}
+use Rattle.record_test.specs.Numbers.{pieceCuts}
 use Rattle.plan_test.proofs.pieces_cuts.Statement.{statement}
 use Rattle.plan_test.proofs.pieces_cuts.Tie as tie
 

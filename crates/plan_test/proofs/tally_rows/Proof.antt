@@ -8,7 +8,7 @@ use Rattle.refusals.specs.Refusals.{lowestOf}
 use Rattle.plan.specs.Sections as sections
 use Rattle.plan.specs.Records.{headAt}
 use Rattle.plan.specs.Plan.{piecesFrom, countOf}
-use Rattle.plan_test.specs.Numbers.{pieceOwn}
+use Rattle.record_test.specs.Numbers.{pieceOwn}
 use Rattle.plan_test.specs.Tests.{cuttersOf, placeOk, placesOk, tallyOf}
 use Rattle.plan_test.proofs.Lists.{own-start, own-more, used-start, used-more, placed-start}
 use Rattle.plan_test.proofs.Lists.{placed-more, sum-words, sum-fits}

@@ -11,14 +11,16 @@ use Rattle.plan.specs.Sections.{planWords, argsRow}
 use Rattle.plan.specs.Records.{materialAt, lightAt}
 use Rattle.plan.specs.Plan.{Plan, seen, planIn, withMaterial, withLight}
 use Rattle.plan_test.specs.Tests.{solidsOf}
-use Rattle.plan_entry.specs.Entry.{argCuts, newPlace, withMaterialWords, withLightWords}
+use Rattle.plan_write.specs.Written.{argCuts, withMaterialWords, withLightWords}
+use Rattle.plan_entry.specs.Entry.{newPlace}
 use Rattle.plan_entry.specs.After as made
 use Rattle.plan_entry.specs.After.{withOne, Made}
 use Rattle.plan_entry.proofs.Entered.{piece-entered, material-entered, light-entered}
 use Rattle.wire.specs.Lent.{planTable}
-use Rattle.wire.specs.Sent.{planBefore, cleared}
+use Rattle.wire_lengths.specs.Lengths.{planBefore}
+use Rattle.wire.specs.Sent.{cleared}
 use Rattle.bemitondry_entry.specs.Entries.{materialEntry, lightEntry, pieceEntry, pieceLeft}
-use Rattle.viewer.specs.Entries.{EntrySent, objectBefore}
+use Rattle.wire_entry.specs.Entries.{EntrySent, objectBefore}
 use Rattle.promises.specs.Bytes.{FullPlan, FullTree}
 use Rattle.promises.specs.Demand1.{Lent, MaterialTaken, LightTaken, PieceTaken, Enters, entering, Replied}
 use Rattle.promises.specs.Demand1.{Dropped}

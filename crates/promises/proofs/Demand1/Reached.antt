@@ -18,16 +18,18 @@ use Rattle.plan.specs.Records.{wordOf, floatOf, materialAt, lightAt}
 use Rattle.plan.specs.Plan.{Plan, cutsBy, countOf, seen, planIn, withMaterial, withLight}
 use Rattle.plan.proofs.Rows.{float-of, moved, light-same}
 use Rattle.plan_test.specs.Tests.{cuttersOf}
-use Rattle.plan_test.specs.Exact.{PieceOk, PlaceIs, LightOk, SoundLit}
-use Rattle.plan_entry.specs.Entry.{argCuts, sectionOf}
+use Rattle.record_test.specs.Exact.{LightOk}
+use Rattle.plan_test.specs.Exact.{PieceOk, PlaceIs, SoundLit}
+use Rattle.plan_write.specs.Written.{argCuts, sectionOf}
 use Rattle.plan_entry.specs.After.{givenPiece, withOne}
 use Rattle.plan_entry.proofs.Accepts.{accepted}
 use Rattle.plan_entry.proofs.Entered.{placeFor, Placed, placed-for}
 use Rattle.reply.specs.Reply.{oneWord, replyOf}
-use Rattle.wire.specs.Lent.{planBytes, nodesBytes, orderBytes, outBytes, planTable}
-use Rattle.wire.specs.Sent.{planBefore}
+use Rattle.wire_lengths.specs.Lengths.{planBytes, nodesBytes, orderBytes, outBytes}
+use Rattle.wire.specs.Lent.{planTable}
+use Rattle.wire_lengths.specs.Lengths.{planBefore}
 use Rattle.bemitondry_entry.specs.Entries.{pieceEntry, pieceLeft}
-use Rattle.viewer.specs.Entries.{EntrySent, objectBefore}
+use Rattle.wire_entry.specs.Entries.{EntrySent, objectBefore}
 use Rattle.promises.specs.Bytes.{planAt, FullPlan, FullTree}
 use Rattle.promises.specs.Demand1.{Lent, MaterialOk, MaterialTaken, LightTaken, listOf, PieceTaken, entering}
 use Rattle.promises.specs.Demand1.{Run, start, material, light, plane, object, emptyPlan}

@@ -18,7 +18,8 @@ use Rattle.plan.specs.declared.QuadLight.{QuadLight}
 use Rattle.plan.specs.Records.{wordOf, lightIn, headAt}
 use Rattle.plan.specs.Plan.{Piece, Plan, pieceAt, piecesFrom, countOf, planOf, seen, planIn}
 use Rattle.plan_test.specs.Tests.{cuttersOf, litNumber}
-use Rattle.plan_test.specs.Exact.{PieceOk, PlaceIs, PlacesAre, LightOk, CountsOk, SoundLit}
+use Rattle.record_test.specs.Exact.{LightOk}
+use Rattle.plan_test.specs.Exact.{PieceOk, PlaceIs, PlacesAre, CountsOk, SoundLit}
 use Rattle.plan_test.proofs.Exact.{lit-exact}
 use Rattle.wire.specs.Lent.{planTable}
 use Rattle.promises.specs.Bytes.{planAt}

@@ -17,7 +17,7 @@ use Rattle.plan_entry.specs.After as made
 use Rattle.plan_entry.specs.After.{Made}
 use Rattle.plan_entry.proofs.Made.{made-lit}
 use Rattle.wire.specs.Lent.{planTable}
-use Rattle.viewer.specs.Entries.{EntrySent}
+use Rattle.wire_entry.specs.Entries.{EntrySent}
 use Rattle.promises.specs.Bytes.{planWith, planAt}
 use Rattle.promises.specs.Demand1.{Run, start, material, light, plane, object, Passes, emptyPlan}
 use Rattle.promises.proofs.Tables.{plan-length, zeros, zero-plan}

@@ -9,7 +9,8 @@ use Rattle.words.specs.Words.{le4, wordAt, wordsOf, put4, putWord, putWords}
 use Rattle.words.proofs.Laws.{Bytes}
 use Rattle.plan.specs.Sections.{planWords, argsWords, nodesWords, orderPlaces}
 use Rattle.plan.specs.Records.{wordOf}
-use Rattle.wire.specs.Lent.{planBytes, lentOf, tableOf, planTable}
+use Rattle.wire_lengths.specs.Lengths.{planBytes}
+use Rattle.wire.specs.Lent.{lentOf, tableOf, planTable}
 use Rattle.promises.proofs.Tables.{zeros}
 use Rattle.promises.proofs.Cases.{either}
 use Rattle.promises.proofs.Demand1.Given.{bytesOf}

@@ -12,12 +12,14 @@ use Rattle.plan.specs.declared.Material.{Material}
 use Rattle.plan.specs.Records.{materialAt, lightAt, headAt}
 use Rattle.plan.specs.Plan.{cutsBy, countOf, seen, planIn}
 use Rattle.plan_test.specs.declared.Solids.{Solids}
-use Rattle.plan_test.specs.Numbers.{materialNumber, lightNumber}
+use Rattle.record_test.specs.Numbers.{materialNumber, lightNumber}
 use Rattle.plan_test.specs.Tests.{solidsOf}
-use Rattle.plan_test.specs.Exact.{CutterOk, HeadOk, CountsOk, SoundSolids}
-use Rattle.plan_test.proofs.Numbers.{own-exact, cuts-exact, light-exact}
+use Rattle.record_test.specs.Exact.{CutterOk, HeadOk}
+use Rattle.plan_test.specs.Exact.{CountsOk, SoundSolids}
+use Rattle.record_test.proofs.Numbers.{own-exact, cuts-exact, light-exact}
 use Rattle.plan_test.proofs.Exact.{counts-exact, solids-exact, solids-used}
-use Rattle.plan_entry.specs.Entry.{argCuts, argCutsNumber, argsNumber, sectionOf, roomNumber, pieceNumber}
+use Rattle.plan_write.specs.Written.{argCuts, sectionOf}
+use Rattle.plan_entry.specs.Entry.{argCutsNumber, argsNumber, roomNumber, pieceNumber}
 use Rattle.plan_entry.specs.Entry.{recordNumber}
 use Rattle.promises.specs.Demand1.{MaterialOk, MaterialTaken, LightTaken, PieceTaken}
 use Rattle.promises.proofs.Exact.{lower-exact, unless-exact, cond-exact, and-exact, leb-exact, ltb-exact}

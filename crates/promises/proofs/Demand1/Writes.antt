@@ -13,10 +13,11 @@ use Rattle.words.proofs.Laws.{less-or, length-puts}
 use Rattle.plan.specs.Sections.{planWords, argsRow, cutterRow, materials, lights}
 use Rattle.plan.specs.Records.{wordOf}
 use Rattle.plan.specs.Plan.{countOf}
-use Rattle.plan_entry.specs.Entry.{argCuts, sectionOf, pieceWords, cutterWords, firstWord, recordWords, putRow}
-use Rattle.plan_entry.specs.Entry.{putCutters, oneMore, withPiece, withMaterialWords, withLightWords}
-use Rattle.plan_entry.proofs.Lists.{row-out, length-row, row-other}
-use Rattle.wire.specs.Lent.{planBytes, lentOf, planTable}
+use Rattle.plan_write.specs.Written.{argCuts, sectionOf, pieceWords, cutterWords, firstWord, recordWords, putRow}
+use Rattle.plan_write.specs.Written.{putCutters, oneMore, withPiece, withMaterialWords, withLightWords}
+use Rattle.plan_write.proofs.Lists.{row-out, length-row, row-other}
+use Rattle.wire_lengths.specs.Lengths.{planBytes}
+use Rattle.wire.specs.Lent.{lentOf, planTable}
 use Rattle.promises.proofs.Tables.{stored-word, lent-full, plan-length, plan-word, rest-word}
 
 pub record WritesPlan (w left : List ℕ) : Type 0 where

@@ -11,7 +11,8 @@ use Rattle.plan.specs.Plan.{seen, planIn}
 use Rattle.plan_test.specs.Exact.{SoundObjects}
 use Rattle.bvh_boxes.specs.Boxes.{boxesOf}
 use Rattle.bvh_rules.specs.Nodes.{nodesOf, orderOf}
-use Rattle.wire.specs.Lent.{nodesBytes, orderBytes, planTable, askTable}
+use Rattle.wire_lengths.specs.Lengths.{nodesBytes, orderBytes}
+use Rattle.wire.specs.Lent.{planTable, askTable}
 use Rattle.promises.specs.Bytes.{planAt, nodeWords, nodeFloats, orderWords, FullTree}
 use Rattle.promises.proofs.Tables.{table-length, table-nodes, table-floats, table-order, used-full}
 use Rattle.promises.proofs.Alone.{asked-same, sound-housed, objects-alone, sound-alone}

@@ -23,10 +23,9 @@ use Rattle.bvh_build.specs.Tables.{builtOf, sizeOf, lowEnough, nodesWith, order
 use Rattle.bvh_build.proofs.Laid.{length-laid}
 use Rattle.bvh_build.proofs.Shape.{low-depth}
 use Rattle.bvh_build.proofs.Meets.{built-holds, built-low}
-use Rattle.wire.specs.Lent.{outBytes}
-use Rattle.wire.specs.Sent.{treeTablesBefore}
+use Rattle.wire_lengths.specs.Lengths.{outBytes, treeTablesBefore}
 use Rattle.bemitondry_tree.specs.Trees.{noNodes, noOrder, buildNumber}
-use Rattle.viewer.specs.Trees.{buildStores, builtWords, BuildSent}
+use Rattle.wire_tree.specs.Trees.{buildStores, builtWords, BuildSent}
 use Rattle.promises.specs.Bytes.{planAt, nodeWords, orderWords, FullPlan, FullTree}
 use Rattle.promises.specs.Demand1.{Lent}
 use Rattle.promises.specs.Demand3.{BuildKeeps}

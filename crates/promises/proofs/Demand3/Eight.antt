@@ -20,8 +20,8 @@ use Rattle.plan.specs.declared.Material.{Material}
 use Rattle.plan.specs.declared.QuadLight.{QuadLight}
 use Rattle.plan.specs.Sections.{nodesWords, cutterPlaces}
 use Rattle.plan.specs.Plan.{Piece, Plan, planOf, seen}
-use Rattle.plan_test.specs.Numbers.{materialNumber, lightNumber, cutterNumber, cutsNumber, ownNumber, pieceOwn}
-use Rattle.plan_test.specs.Numbers.{pieceCuts}
+use Rattle.record_test.specs.Numbers.{materialNumber, lightNumber, cutterNumber, cutsNumber, ownNumber, pieceOwn}
+use Rattle.record_test.specs.Numbers.{pieceCuts}
 use Rattle.plan_test.specs.declared.Solids.{Solids}
 use Rattle.plan_test.specs.Tests.{countsOk, tallyOf, objectsTally, objectsNumber, solidsPlaced, solidsOf, litNumber}
 use Rattle.plan_test.specs.Exact.{SoundObjects}
@@ -32,9 +32,11 @@ use Rattle.bvh_rules.proofs.Exact.{standing-exact}
 use Rattle.panel.specs.Panels.{panelOf, atLightNumber, panelsNumber}
 use Rattle.reply.specs.declared.Reply.{Reply}
 use Rattle.reply.specs.Reply.{doneReply, refusedReply, replyOf}
-use Rattle.wire.specs.Lent.{askTable, shortNumber}
-use Rattle.wire.specs.Sent.{argsBefore, planBefore, tablesBefore, treeBefore, askBefore}
-use Rattle.bemitondry_ask.specs.Asks.{foundReply, treeNumber, queryNumber, queryReply, solidsAsk, distMatReply}
+use Rattle.wire_lengths.specs.Lengths.{shortNumber}
+use Rattle.wire.specs.Lent.{askTable}
+use Rattle.wire_lengths.specs.Lengths.{argsBefore, planBefore, tablesBefore, treeBefore, askBefore}
+use Rattle.ask_test.specs.Numbers.{treeNumber, queryNumber, solidsAsk}
+use Rattle.bemitondry_ask.specs.Asks.{foundReply, queryReply, distMatReply}
 use Rattle.bemitondry_ask.specs.Marches.{traceReply, shadowReply}
 use Rattle.bemitondry_light.specs.Light.{litAsk, litReply, directReply, directDiffuseReply}
 use Rattle.viewer.specs.Calls.{Ask, askReply}

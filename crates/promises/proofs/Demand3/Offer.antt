@@ -27,10 +27,10 @@ use Rattle.bvh_rules.proofs.Level.{judge-none}
 use Rattle.bvh_rules.proofs.Root.{judge-exact}
 use Rattle.bvh_rules.proofs.Exact.{offered-exact, offered-deep, offered-bad}
 use Rattle.bvh_rules.proofs.Trees.{weight-above, stands-fit}
-use Rattle.wire.specs.Lent.{outBytes}
+use Rattle.wire_lengths.specs.Lengths.{outBytes}
 use Rattle.bemitondry_tree.specs.Trees.{offerNumber, offeredTree, judgedTree, sizeIn, frontWord, offeredNodes}
 use Rattle.bemitondry_tree.specs.Trees.{offeredOrder}
-use Rattle.viewer.specs.Trees.{offerTable, offerBefore, OfferSent}
+use Rattle.wire_tree.specs.Trees.{offerTable, offerBefore, OfferSent}
 use Rattle.promises.specs.Bytes.{planAt, nodeWords, nodeFloats, orderWords, AcceptedTree, FullPlan, FullTree}
 use Rattle.promises.specs.Demand1.{Lent}
 use Rattle.promises.specs.Demand3.{OfferKeeps}

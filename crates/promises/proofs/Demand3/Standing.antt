@@ -32,7 +32,8 @@ use Rattle.bvh_search.specs.Field.{hitBy, fieldBy}
 use Rattle.bvh_search.specs.Demand.{Demand}
 use Rattle.bvh_search.proofs.Demand.{demand-met, search-empty}
 use Rattle.panel.specs.Panels.{panelsNumber}
-use Rattle.bemitondry_ask.specs.Asks.{argVec, argFloat, treeNumber, queryNumber, queryBound, solidsAsk}
+use Rattle.ask_test.specs.Numbers.{argVec, argFloat, treeNumber, queryNumber, solidsAsk}
+use Rattle.bemitondry_ask.specs.Asks.{queryBound}
 use Rattle.bemitondry_light.specs.Light.{panels, litAsk}
 use Rattle.promises.specs.Demand3.{Searches, Answers, FieldAnswers}
 use Rattle.promises.proofs.Exact.{as-is, lower-exact, unless-exact, and-exact}

@@ -16,7 +16,7 @@ unfolding directStep
 returns-2 c =
     let g = c .before .before in
     let m = g .before .before in
-    rw (sym (m .before .panel-of .ensures), sym (m .reach-of .ensures), g .sight .given .1) (cc)
+    rw (sym (m .before .panel-of .ensures), sym (m .reach-of .ensures), g .sight .given .1, c .shone .ensures)
 
 pub direct-step-spec : {M : Type 1} → statement M
 direct-step-spec =

@@ -1,7 +1,7 @@
 -- `shade::panels_number` meets its contract: the lowest so far is that of the lights passed. Assumes nothing.
 use borrow.Author.Needs.{needs}
 use Prim.Native.Nat.{_≤_, _-_}
-use mathlib.Core.Path.{_≡_}
+use mathlib.Core.Path.{_≡_, sym}
 use native.Mathlib.Nat.{zero-add}
 use native.Mathlib.Omega.{arith}
 use Rattle.words.specs.Lists.{listFrom}
@@ -32,7 +32,11 @@ loop-again c = (
 
 returns : tie.Need-returns Inv-loop μ-loop
 unfolding panelsNumber
-returns c = let e : c .before .loop .j ≡ c .before .before .panels-in .result = omega arith in rw lights-taken (cc)
+returns c =
+    let l = c .before in
+    let n = l .before in
+    let e : n .panels-in .result ≡ l .loop .j = omega arith in
+    rw (lights-taken, sym (n .panels-in .ensures), e) (l .loop .inv .1)
 
 pub panels-number-spec : {M : Type 1} → statement M
 panels-number-spec =

@@ -1,6 +1,6 @@
 -- `viewer_f0` meets its contract: what is sent is the call's reply. Assumes nothing.
 use Rattle.viewer.specs.Calls.{f0Lent}
-use Rattle.viewer.proofs.Lent.{sent-as}
+use Rattle.wire.proofs.Replies.{sent-as}
 use borrow.Author.Needs.{needs}
 use Rattle.viewer.proofs.viewer_f0.Statement.{statement}
 use Rattle.viewer.proofs.viewer_f0.Tie as tie
