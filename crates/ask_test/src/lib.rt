@@ -1,4 +1,4 @@
-// Tests of the calls that ask of a loaded table: which number they get by their arguments, by the plan, and by the tree.
+// Tests of the calls that ask of a loaded table: which number they get by their arguments, by the plan and by the tree.
 // `before` is a number that applies already; `ws` and `fs` are a call's table.
 ghost use mathlib.Core.Path.{_≡_};
 ghost use Rattle.ask_test.specs.Numbers.{treeNumber, queryNumber, solidsAsk, rayOk};

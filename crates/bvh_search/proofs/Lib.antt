@@ -7,3 +7,4 @@ pub mod Visit
 pub mod Covers
 pub mod Bests
 pub mod Demand
+pub mod Same

@@ -1,5 +1,5 @@
--- What a written row is, and what loops that write rows need: no row of the plan is one of the arguments', so that these
--- are read as they were. Assumes nothing.
+-- What a written row is, and what loops that write rows need: no row of the plan is one of the arguments', so that
+-- these are read as they were. Assumes nothing.
 use Prim.Native.Nat.{ℕ, zero, suc, _+_, _*_, _<_, _≤_}
 use mathlib.Core.Path.{_≡_, refl, sym, _∙_, subst}
 use mathlib.Core.Logic.{_⊎_, ⊎-elim, inl, inr}

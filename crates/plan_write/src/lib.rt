@@ -1,5 +1,5 @@
-// What entries write: a record that stands in a table's arguments becomes a row of its plan, its cutters rows after those
-// that are there, and its list has one more.
+// What entries write: a record that stands in a table's arguments becomes a row of its plan, its cutters rows after
+// those that are there, and its list has one more.
 ghost use mathlib.Core.Path.{_≡_};
 ghost use Prim.Native.Nat.{_+_};
 ghost use Rattle.plan.specs.Sections.{materials, lights, argsRow};

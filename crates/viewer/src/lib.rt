@@ -167,7 +167,7 @@ pub extern "C" fn viewer_query(
 {
     let mut ws = [0u32; plan::TABLE];
     let mut fs = [0.0f32; plan::TABLE];
-    wire::load_ask(20, plan, nodes, order, tree, args, &mut ws, &mut fs);
+    wire_used::load_ask(20, plan, nodes, order, tree, args, &mut ws, &mut fs);
     let n = wire_lengths::ask_before(
         20,
         plan.len(),
@@ -197,7 +197,7 @@ pub extern "C" fn viewer_dist_mat(
 {
     let mut ws = [0u32; plan::TABLE];
     let mut fs = [0.0f32; plan::TABLE];
-    wire::load_ask(12, plan, nodes, order, tree, args, &mut ws, &mut fs);
+    wire_used::load_ask(12, plan, nodes, order, tree, args, &mut ws, &mut fs);
     let n = wire_lengths::ask_before(
         12,
         plan.len(),
@@ -227,7 +227,7 @@ pub extern "C" fn viewer_trace(
 {
     let mut ws = [0u32; plan::TABLE];
     let mut fs = [0.0f32; plan::TABLE];
-    wire::load_ask(32, plan, nodes, order, tree, args, &mut ws, &mut fs);
+    wire_used::load_ask(32, plan, nodes, order, tree, args, &mut ws, &mut fs);
     let n = wire_lengths::ask_before(
         32,
         plan.len(),
@@ -257,7 +257,7 @@ pub extern "C" fn viewer_soft_shadow(
 {
     let mut ws = [0u32; plan::TABLE];
     let mut fs = [0.0f32; plan::TABLE];
-    wire::load_ask(36, plan, nodes, order, tree, args, &mut ws, &mut fs);
+    wire_used::load_ask(36, plan, nodes, order, tree, args, &mut ws, &mut fs);
     let n = wire_lengths::ask_before(
         36,
         plan.len(),
@@ -287,7 +287,7 @@ pub extern "C" fn viewer_direct(
 {
     let mut ws = [0u32; plan::TABLE];
     let mut fs = [0.0f32; plan::TABLE];
-    wire::load_ask(56, plan, nodes, order, tree, args, &mut ws, &mut fs);
+    wire_used::load_ask(56, plan, nodes, order, tree, args, &mut ws, &mut fs);
     let n = wire_lengths::ask_before(
         56,
         plan.len(),
@@ -317,7 +317,7 @@ pub extern "C" fn viewer_direct_diffuse(
 {
     let mut ws = [0u32; plan::TABLE];
     let mut fs = [0.0f32; plan::TABLE];
-    wire::load_ask(36, plan, nodes, order, tree, args, &mut ws, &mut fs);
+    wire_used::load_ask(36, plan, nodes, order, tree, args, &mut ws, &mut fs);
     let n = wire_lengths::ask_before(
         36,
         plan.len(),

@@ -1,5 +1,5 @@
--- What a call leaves. "An `out` shorter than 16 words is a short table too, and stays as it was whatever number is sent."
--- Definitions only.
+-- What a call leaves. "An `out` shorter than 16 words is a short table too, and stays as it was whatever number is
+-- sent." Definitions only.
 use Prim.Native.Nat.{ℕ}
 use mathlib.Core.Path.{_≡_}
 use mathlib.Core.Bool.{Bool, cond}

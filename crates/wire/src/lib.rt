@@ -1,5 +1,5 @@
-// The boundary's tables: how what is lent is loaded into one table of words and floats, and how it is stored and a reply
-// sent.
+// The boundary's tables: how what is lent is loaded into one table of words and floats, and how it is stored and a
+// reply sent.
 ghost use mathlib.Core.Path.{_≡_};
 ghost use mathlib.Core.List.{[]};
 ghost use Rattle.plan.specs.Plan.{seen};
@@ -31,7 +31,7 @@ pub fn none(t: &[u8]) -> &[u8]
 }
 
 // A table of a tree, which is looked at where `tree` is 1.
-fn used(tree: u32, t: &[u8], full: usize) -> &[u8]
+pub fn used(tree: u32, t: &[u8], full: usize) -> &[u8]
     ensures { λ r. ⌜ now r ≡ usedOf tree (now (t .entry)) full ⌝ }
 {
     if tree == 1 {
@@ -59,7 +59,7 @@ pub fn vec_at(t: &[u8], i: u32) -> Vec3
 }
 
 // The words of a table, loaded from one place up to another.
-fn load_part(t: &[u8], ws: &mut [u32], from: usize, to: usize)
+pub fn load_part(t: &[u8], ws: &mut [u32], from: usize, to: usize)
     ensures { λ _. ⌜ now (ws .exit) ≡ loadedPart (now (t .entry)) (now (ws .entry)) from to ⌝ }
 {
     if to <= ws.len() {

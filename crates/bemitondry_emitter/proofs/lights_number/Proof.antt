@@ -1,4 +1,5 @@
--- `bemitondry_emitter::lights_number` meets its contract: the lowest so far is that of the records passed. Assumes nothing.
+-- `bemitondry_emitter::lights_number` meets its contract: the lowest so far is that of the records passed. Assumes
+-- nothing.
 use borrow.Author.Needs.{needs}
 use Prim.Native.Nat.{_≤_, _-_}
 use mathlib.Core.Path.{_≡_, sym}

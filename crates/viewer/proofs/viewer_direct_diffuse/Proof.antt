@@ -1,6 +1,7 @@
 -- `viewer_direct_diffuse` meets its contract: what is sent is the call's reply. Assumes nothing.
 use Rattle.bemitondry_light.specs.Light.{directDiffuseReply}
-use Rattle.viewer.proofs.Lent.{ask-sent}
+use Rattle.viewer.proofs.Same.{diffuse-same}
+use Rattle.viewer.proofs.Lent.{ask-sent, zero-words, zero-floats}
 use borrow.Author.Needs.{needs}
 use Rattle.viewer.proofs.viewer_direct_diffuse.Statement.{statement}
 use Rattle.viewer.proofs.viewer_direct_diffuse.Tie as tie
@@ -10,7 +11,8 @@ returns c =
     let s = c .before .before in
     let r = s .before .before in
     let l = r .before .before .before in
-    ask-sent directDiffuseReply 36 _ _ _ _ _ _ _ _ _ _ _ _ (l .before .load-ask .ensures) (l .ask-before .ensures)
+    ask-sent directDiffuseReply diffuse-same 36 _ _ _ _ _ _ _ _ _ _ _ _
+    (l .before .load-ask .ensures (zero-words 27296) (zero-floats 27296)) (l .ask-before .ensures)
     (r .direct-diffuse .ensures) (s .send .ensures)
 
 pub viewer-direct-diffuse-spec : {M : Type 1} → statement M

@@ -1,4 +1,4 @@
--- `wire_entry::add_object` meets its contract: what the entry leaves is stored and sent, and the tree's tables become zero.
+-- `wire_entry::add_object` meets its contract: what the entry leaves is stored and sent, and the tree's tables become 0.
 -- Assumes nothing.
 use mathlib.Core.Bool.{false}
 use lib.ListN.{length}

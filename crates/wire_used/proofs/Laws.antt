@@ -1,0 +1,92 @@
+-- Steps of the walks over heads, order and floats: what held of the places passed holds of one more. Assumes nothing.
+use Prim.Native.Nat.{ℕ, _+_, _*_, _<_, _≤_}
+use mathlib.Core.Path.{_≡_, refl, sym, subst, _∙_}
+use mathlib.Core.Logic.{_⊎_, inl, inr, ⊎-elim}
+use mathlib.Core.List.{List}
+use native.Mathlib.Decide.{decLe}
+use native.Mathlib.Omega.{arith}
+use lib.ListN.{length, set, List·getD-eq-default, length-set}
+use lib.Seq.{getD-set-same, getD-set-other}
+use lib.Ieee.{Float, nan, binary32, ofBits}
+use Rattle.plan.specs.Records.{wordOf, floatOf}
+use Rattle.wire_used.specs.Inside.Used.{Ends, Begins, Used, Seen}
+
+-- no words lie past a table
+pub word-none : (w : List ℕ) (i : ℕ) → length w ≡ 27296 → 27296 ≤ i → wordOf w i ≡ 0
+word-none w i l h = List·getD-eq-default w 0 {n = i} (subst (λ (n : ℕ). n ≤ i) (sym l) h)
+
+-- one place more
+pub one-more : {P : ℕ → Type 0} (n : ℕ) → ((j : ℕ) → j < n → P j) → P n → (j : ℕ) → j < n + 1 → P j
+one-more {P} n h last j l =
+    elim (decLe n j) [
+      | yes g ↦ let e : n ≡ j = omega (arith, g, l) in subst P e last
+      | no g ↦ h j (omega (arith, g))
+    ]
+
+pub ends-more : (w : List ℕ) (u e r : ℕ) → u ≤ e → Ends w u r → Ends w e r
+ends-more w u e r h (inl z) = inl z
+ends-more w u e r h (inr l) = inr (omega (arith, h, l))
+
+pub begins-more : (w : List ℕ) (v e r : ℕ) → e ≤ v → Begins w v r → Begins w e r
+begins-more w v e r h (inl z) = inl z
+begins-more w v e r h (inr l) = inr (omega (arith, h, l))
+
+-- one word more is seen
+pub seen-more
+    : (w : List ℕ) (f g : List Float) (from i : ℕ) (x : Float) → from ≤ i → i < 27296 → Seen w f g from i
+    → x ≡ ofBits binary32 (wordOf w i) → Seen w f (set g i x) from (i + 1)
+seen-more w f g from i x h b s e =
+    let long = s .long in
+    let l : i < length g = omega (arith, b, long) in
+    record {
+      long = length-set g i x ∙ s .long;
+      inside = λ k a q.
+          elim (decLe i k) [
+            | yes c ↦
+                let z : i ≡ k = omega (arith, q, c) in
+                subst (λ (j : ℕ). floatOf (set g i x) j ≡ ofBits binary32 (wordOf w j)) z
+                (getD-set-same g i x nan l ∙ e)
+            | no c ↦
+                let z : k ≡ i → ⊥ = λ q. let no : ⊥ = omega (arith, q, c) in absurd no in
+                getD-set-other g i k x nan z ∙ s .inside k a (omega (arith, c))
+          ];
+      outside = λ k a.
+          let z : k ≡ i → ⊥
+          = λ q.
+          ⊎-elim (λ b. let no : ⊥ = omega (arith, q, b, h) in absurd no)
+          (λ b. let no : ⊥ = omega (arith, q, b) in absurd no)
+          a in
+          getD-set-other g i k x nan z
+          ∙ s .outside k (⊎-elim (λ b. inl b) (λ b. inr (omega (arith, b))) a);
+    }
+
+pub seen-none : (w : List ℕ) (f : List Float) (from : ℕ) → length f ≡ 27296 → Seen w f f from from
+seen-none w f from l =
+    record {
+      long = l;
+      inside = λ k a b. let no : ⊥ = omega (arith, a, b) in absurd no;
+      outside = λ k a. refl;
+    }
+
+-- ---- what is used is that of a table with the same heads and order
+pub used-as
+    : (w x : List ℕ) (u v m : ℕ) → ((i : ℕ) → i < 5904 → wordOf x i ≡ wordOf w i)
+    → ((i : ℕ) → 22288 ≤ i → wordOf x i ≡ wordOf w i) → Used w u v m → Used x u v m
+used-as w x u v m low high s =
+    record {
+      materials = rw (low 0 (omega arith)) (s .materials);
+      planes = rw (low 1 (omega arith)) (s .planes);
+      lights = rw (low 2 (omega arith)) (s .lights);
+      objects = rw (low 3 (omega arith)) (s .objects);
+      most = s .most;
+      begins = λ j h.
+          let few = s .planes in
+          let k : j < wordOf w 1 = rw (← low 1 (omega arith)) h in
+          rw (low (16 * (65 + j) + 2) (omega (arith, few, k)), low (16 * (65 + j) + 12) (omega (arith, few, k)))
+          (s .begins j k);
+      ends = λ j h.
+          let few = s .most in
+          rw (low (16 * (113 + j) + 2) (omega (arith, few, h)), low (16 * (113 + j) + 12) (omega (arith, few, h)))
+          (s .ends j h);
+      order = λ i h. rw (high (27031 + i) (omega arith)) (s .order i h);
+    }
