@@ -36,7 +36,7 @@ no-nan-bits p h =
     less : (p : ℕ) → p < 2139095040 → 2139095040 < p % 2147483648 → ⊥
     less p h k = omega arith
 
-is-plain
+pub is-plain
     : (x : Float) → T (fits binary32 x) → lt (ofBits binary32 0) x ≡ true → toBits binary32 x < 2139095040
     → T (plain x)
 unfolding lt toBits ofBits

@@ -66,6 +66,49 @@ pub fn left_first(l: f32, r: f32) -> bool
     root::root(l) < root::root(r)
 }
 
+// A guess at the root of x, the right one 99 times in 100. Its first twelve digits are a line through the bits of x, so
+// that their square is exact; the others are a series. Nothing rests on it but time.
+fn guess(x: f32) -> f32 {
+    if usual(x) {
+        let s = f32::from_bits((f32::to_bits(x) >> 13 << 12) + 0x1fbd_1000);
+        let q = s * s;
+        let d = (x - q) / q;
+        let e = d * d;
+        let high = 0.0625 - d * 0.0390625 + e * (0.02734375 - d * 0.0205078125);
+        return s + s * d * (0.5 - d * 0.125 + e * high);
+    }
+    0.0
+}
+
+// Whether r is the root of x, by squares alone: x is at least the limit of r, and below that of the next f32. A `false`
+// tells nothing.
+fn is_root(x: f32, r: f32) -> bool
+    ensures { λ t. ⌜ (t ≡ true → r ≡ rootOf x) ⌝ }
+{
+    if usual(x) {
+        if r > 0.0 {
+            let b = f32::to_bits(r);
+            if b < 0x7f7f_ffff {
+                if root::at_least(x, root::bar(r)) {
+                    return !root::at_least(x, root::bar(f32::from_bits(b + 1)));
+                }
+            }
+        }
+    }
+    false
+}
+
+// The root of x, for those who take many: a guess, or its digits where the guess is not the root.
+pub fn quick_root(x: f32) -> f32
+    ensures { λ r. ⌜ r ≡ rootOf x ⌝ }
+{
+    let r = guess(x);
+    if is_root(x, r) {
+        return r;
+    }
+    root::root(x)
+}
+
 // Whether the root of q is finite and at least w: by the square of w, which an f64 holds. A `false` tells nothing.
 pub fn reaches(q: f32, w: f32) -> bool
     ensures { λ x. ⌜ (x ≡ true → T (finite (rootOf q)) × T (le w (rootOf q))) ⌝ }

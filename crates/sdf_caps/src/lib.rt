@@ -81,16 +81,16 @@ fn cylinder_at(q: f32, y: f32, baba: f32, rb: f32, t: f32) -> f32
             return t;
         }
     }
-    let d = square(root::root(q) - rb, y, y2, by);
+    let d = square(root_tests::quick_root(q) - rb, y, y2, by);
     if d > 0.0 {
         if root_tests::reaches(d, w) {
             if far(t, w, baba) {
                 return t;
             }
         }
-        return root::root(d) / baba;
+        return root_tests::quick_root(d) / baba;
     }
-    scalar::signum(d) * root::root(sdf_near::size(d)) / baba
+    scalar::signum(d) * root_tests::quick_root(sdf_near::size(d)) / baba
 }
 
 fn cylinder_body(pa: Vec3, ba: Vec3, baba: f32, r: f32, t: f32) -> f32
@@ -241,7 +241,7 @@ fn cone_from(
             }
         }
     }
-    s * root::root(d)
+    s * root_tests::quick_root(d)
 }
 
 // By the square of a lower bound first.
@@ -259,7 +259,7 @@ fn cone_at(g: f32, paba: f32, baba: f32, ra: f32, rb: f32, t: f32) -> f32
             return t;
         }
     }
-    cone_from(root::root(g), paba, cay, baba, ra, rb, rba, w, t)
+    cone_from(root_tests::quick_root(g), paba, cay, baba, ra, rb, rba, w, t)
 }
 
 fn cone_body(pa: Vec3, ba: Vec3, baba: f32, ra: f32, rb: f32, t: f32) -> f32

@@ -35,7 +35,7 @@ pub fn less(q: f32, r: f32, t: f32) -> f32
             return t;
         }
     }
-    root::root(q) - r
+    root_tests::quick_root(q) - r
 }
 
 pub fn sphere(c: Vec3, r: f32, p: Vec3, t: f32) -> f32
@@ -66,7 +66,7 @@ fn box_less(q: f32, n: f32, r: f32, t: f32) -> f32
             return t;
         }
     }
-    root::root(q) + m - r
+    root_tests::quick_root(q) + m - r
 }
 
 pub fn round_box(c: Vec3, b: Vec3, r: f32, p: Vec3, t: f32) -> f32
@@ -129,7 +129,7 @@ fn torus_at(g: f32, y: f32, major: f32, minor: f32, t: f32) -> f32
             }
         }
     }
-    let xz = root::root(g) - major;
+    let xz = root_tests::quick_root(g) - major;
     less(xz * xz + y * y, minor, t)
 }
 

@@ -122,7 +122,7 @@ fn dimmed(res: f32, q: f32, k: f32, m: f32, w: f32) -> f32
     if clear(res, q, k, m, w) {
         return res;
     }
-    scalar::min(res, k * root::root(q) / m)
+    scalar::min(res, k * root_tests::quick_root(q) / m)
 }
 
 // What is left of the light after the distance h. Receding, the nearest was the sample before. Else y is at most half

@@ -22,7 +22,7 @@ returns c =
 returns-2 : tie.Need-returns-2
 returns-2 c =
     let a = c .before .before .before .before .before .before in
-    rw (sym (a .size .ensures), sym (c .before .root .ensures)) (c .cone-from .ensures (a .before .guess .ensures))
+    rw (sym (a .size .ensures), sym (c .before .quick-root .ensures)) (c .cone-from .ensures (a .before .guess .ensures))
 
 pub cone-at-spec : {M : Type 1} → statement M
 cone-at-spec =

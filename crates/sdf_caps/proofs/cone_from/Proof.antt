@@ -27,7 +27,7 @@ returns-2 c = λ low.
     let d = s .before in
     let f = d .before in
     let m = f .before in
-    inl (rw (c .root .ensures, s .cone-sign .ensures, d .min .ensures)
+    inl (rw (c .quick-root .ensures, s .cone-sign .ensures, d .min .ensures)
     (rw (f .cone-foot .ensures, m .max .ensures, m .before .cone-end .ensures)))
 
 pub cone-from-spec : {M : Type 1} → statement M

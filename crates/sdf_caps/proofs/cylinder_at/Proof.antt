@@ -25,7 +25,7 @@ returns-2 c =
     let s = i .before .before .before in
     let r = s .before in
     let g = r .before .before .before .before in
-    let is = square-is _ _ _ _ _ _ _ (s .square .ensures) (r .root .ensures) (g .before .beyond .ensures) in
+    let is = square-is _ _ _ _ _ _ _ (s .square .ensures) (r .quick-root .ensures) (g .before .beyond .ensures) in
     inr (
       refl,
       by-square _ _ _ _ _ _ _ is (g .guess .ensures) (c .before .far2 .ensures (c .if5 .taken))
@@ -38,8 +38,8 @@ returns-3 c =
     let s = p .before in
     let r = s .before in
     let b = r .before .before .before .before .before in
-    let is = square-is _ _ _ _ _ _ _ (s .square .ensures) (r .root .ensures) (b .beyond .ensures) in
-    inl (by-root _ _ _ _ _ _ is (p .if3 .taken) (c .root2 .ensures))
+    let is = square-is _ _ _ _ _ _ _ (s .square .ensures) (r .quick-root .ensures) (b .beyond .ensures) in
+    inl (by-root _ _ _ _ _ _ is (p .if3 .taken) (c .quick-root2 .ensures))
 
 returns-4 : tie.Need-returns-4
 returns-4 c =
@@ -47,8 +47,8 @@ returns-4 c =
     let s = a .before .before .before in
     let r = s .before in
     let b = r .before .before .before .before .before in
-    let is = square-is _ _ _ _ _ _ _ (s .square .ensures) (r .root .ensures) (b .beyond .ensures) in
-    inl (rw (c .root3 .ensures, a .size .ensures, a .before .signum .ensures)
+    let is = square-is _ _ _ _ _ _ _ (s .square .ensures) (r .quick-root .ensures) (b .beyond .ensures) in
+    inl (rw (c .quick-root3 .ensures, a .size .ensures, a .before .signum .ensures)
     (ap (λ (d : Float). rooted d (b .before .args .baba)) is))
 
 pub cylinder-at-spec : {M : Type 1} → statement M

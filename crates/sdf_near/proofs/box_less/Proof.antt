@@ -26,7 +26,7 @@ returns c =
     )
 
 returns-2 : tie.Need-returns-2
-returns-2 c = inl (rw (c .root .ensures, c .before .before .before .before .min .ensures))
+returns-2 c = inl (rw (c .quick-root .ensures, c .before .before .before .before .min .ensures))
 
 pub box-less-spec : {M : Type 1} → statement M
 box-less-spec =

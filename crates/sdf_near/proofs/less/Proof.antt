@@ -13,7 +13,7 @@ returns c =
     inr (refl, root-far (a .q) _ (a .r) (a .t) (b .reaches .ensures (c .before .if1 .taken)) (c .if2 .taken))
 
 returns-2 : tie.Need-returns-2
-returns-2 c = inl (rw (c .root .ensures))
+returns-2 c = inl (rw (c .quick-root .ensures))
 
 pub less-spec : {M : Type 1} → statement M
 less-spec = tie.close (tie.spec

@@ -20,7 +20,7 @@ returns c =
     )
 
 returns-2 : tie.Need-returns-2
-returns-2 c = rw (sym (c .before .root .ensures)) (c .less .ensures)
+returns-2 c = rw (sym (c .before .quick-root .ensures)) (c .less .ensures)
 
 pub torus-at-spec : {M : Type 1} → statement M
 torus-at-spec =

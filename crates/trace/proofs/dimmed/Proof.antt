@@ -8,7 +8,7 @@ returns : tie.Need-returns
 returns c = sym (c .before .clear .ensures (c .if1 .taken))
 
 returns-2 : tie.Need-returns-2
-returns-2 c = rw (c .min .ensures, c .before .root .ensures)
+returns-2 c = rw (c .min .ensures, c .before .quick-root .ensures)
 
 pub dimmed-spec : {M : Type 1} → statement M
 dimmed-spec =
