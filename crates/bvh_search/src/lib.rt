@@ -27,8 +27,8 @@ const STACK: usize = 64;
 
 const WAIT_MOST: usize = 62;
 
-// A tree has no more nodes than this to pop, and the order no more places.
-const POPS: u32 = 511;
+// A tree has no more nodes than this, and so no more to pop; the order has no more places.
+const NODES: u32 = 511;
 
 const PLACES: u32 = 256;
 
@@ -55,7 +55,7 @@ pub struct Scan {
 
 // The node in hand with its key, how many wait, the best hit with the limit of its distance, and how the search stands.
 pub struct State {
-    pub at: usize,
+    pub at: u32,
     pub key: f32,
     pub sp: usize,
     pub hit: DistHit,
@@ -88,10 +88,10 @@ fn box_square(p: Vec3, b: Aabb) -> f32
     d.dot(d)
 }
 
-fn square_at(ws: &Words, fs: &Floats, p: Vec3, at: usize) -> f32
+fn square_at(ws: &Words, fs: &Floats, p: Vec3, at: u32) -> f32
     ensures { λ r. ⌜ r ≡ squareAt (nodesOf (now (ws .entry))) (nodesOf (now (fs .entry))) p at ⌝ }
 {
-    let v = bvh_rules::node_at(ws, fs, at);
+    let v = bvh_rules::node_at(ws, fs, at as usize);
     box_square(p, v.hull)
 }
 
@@ -130,13 +130,13 @@ fn leaf_hit(ws: &Words, fs: &Floats, p: Vec3, s: u32, c: u32, best: DistHit) -> 
     Scan { hit, evaluated: c }
 }
 
-fn place_in(stack: &[usize; 64], k: usize) -> usize
+fn place_in(stack: &[u32; 64], k: usize) -> u32
     ensures { λ r. ⌜ r ≡ getD (now (stack .entry)) k 0 ⌝ }
 {
     if k < STACK {
         return stack[k];
     }
-    let _stack: &[usize] = stack;
+    let _stack: &[u32] = stack;
     0
 }
 
@@ -151,7 +151,7 @@ fn key_in(keys: &[f32; 64], k: usize) -> f32
 }
 
 // The state with another node in hand.
-fn holding(s: State, at: usize, key: f32, sp: usize) -> State
+fn holding(s: State, at: u32, key: f32, sp: usize) -> State
     ensures { λ r. ⌜ r ≡ holding s at key sp ⌝ }
 {
     let hit = s.hit;
@@ -200,7 +200,7 @@ fn popping(s: State) -> State
 }
 
 // The next waiting node in hand, or the end.
-fn next(stack: &[usize; 64], keys: &[f32; 64], s: State) -> State
+fn next(stack: &[u32; 64], keys: &[f32; 64], s: State) -> State
     ensures { λ r. ⌜ r ≡ nextOf (now (stack .entry)) (now (keys .entry)) s ⌝ }
 {
     if s.sp == 0 {
@@ -215,7 +215,7 @@ fn scanned(
     ws: &Words,
     fs: &Floats,
     p: Vec3,
-    stack: &[usize; 64],
+    stack: &[u32; 64],
     keys: &[f32; 64],
     s: State,
     v: Node,
@@ -239,7 +239,7 @@ fn scanned(
 }
 
 // A node with its key, waiting at place sp.
-fn wait(stack: &mut [usize; 64], keys: &mut [f32; 64], sp: usize, at: usize, key: f32)
+fn wait(stack: &mut [u32; 64], keys: &mut [f32; 64], sp: usize, at: u32, key: f32)
     ensures { λ _. ⌜ (now (stack .exit) ≡ set (now (stack .entry)) sp at)
         × (now (keys .exit) ≡ set (now (keys .entry)) sp key) ⌝ }
 {
@@ -248,7 +248,7 @@ fn wait(stack: &mut [usize; 64], keys: &mut [f32; 64], sp: usize, at: usize, key
         keys[sp] = key;
         return;
     }
-    let _stack: &[usize] = stack;
+    let _stack: &[u32] = stack;
     let _keys: &[f32] = keys;
 }
 
@@ -257,11 +257,11 @@ fn children(
     ws: &Words,
     fs: &Floats,
     p: Vec3,
-    stack: &mut [usize; 64],
+    stack: &mut [u32; 64],
     keys: &mut [f32; 64],
     s: State,
-    l: usize,
-    r: usize,
+    l: u32,
+    r: u32,
 ) -> State
     ensures { λ x. ⌜ tables (now (stack .exit)) (now (keys .exit)) x
         ≡ childrenOf (nodesOf (now (ws .entry))) (nodesOf (now (fs .entry)))
@@ -285,7 +285,7 @@ fn opened(
     ws: &Words,
     fs: &Floats,
     p: Vec3,
-    stack: &mut [usize; 64],
+    stack: &mut [u32; 64],
     keys: &mut [f32; 64],
     s: State,
     v: Node,
@@ -294,9 +294,9 @@ fn opened(
         ≡ openedOf (nodesOf (now (ws .entry))) (nodesOf (now (fs .entry))) (orderOf (now (ws .entry)))
         (now (ws .entry)) (now (fs .entry)) p (now (stack .entry)) (now (keys .entry)) s v ⌝ }
 {
-    if s.at < bvh_rules::NODES_MOST {
+    if s.at < NODES {
         if v.count == 0 {
-            return children(ws, fs, p, stack, keys, s, s.at + 1, v.right as usize);
+            return children(ws, fs, p, stack, keys, s, s.at + 1, v.right);
         }
         return scanned(ws, fs, p, stack, keys, s, v);
     }
@@ -308,7 +308,7 @@ fn step(
     ws: &Words,
     fs: &Floats,
     p: Vec3,
-    stack: &mut [usize; 64],
+    stack: &mut [u32; 64],
     keys: &mut [f32; 64],
     s: State,
 ) -> State
@@ -327,7 +327,7 @@ fn step(
         stack,
         keys,
         popping(s),
-        bvh_rules::node_at(ws, fs, s.at),
+        bvh_rules::node_at(ws, fs, s.at as usize),
     )
 }
 
@@ -337,14 +337,14 @@ fn run(
     fs: &Floats,
     p: Vec3,
     bound: DistHit,
-    stack: &mut [usize; 64],
+    stack: &mut [u32; 64],
     keys: &mut [f32; 64],
 ) -> Searched
     ensures { λ r. ⌜ r ≡ runOf (nodesOf (now (ws .entry))) (nodesOf (now (fs .entry))) (orderOf (now (ws .entry)))
         (now (ws .entry)) (now (fs .entry)) p nodesMost (0 ∷ []) bound 0 0 ⌝ }
 {
     // Only as a slice does a table tell the proof its length.
-    let _stack: &[usize] = stack;
+    let _stack: &[u32] = stack;
     let _keys: &[f32] = keys;
     let mut s = State {
         at: 0,
@@ -356,7 +356,7 @@ fn run(
         evaluated: 0,
         done: GOING,
     };
-    while s.popped < POPS {
+    while s.popped < NODES {
         s = step(ws, fs, p, stack, keys, s);
         if s.done > GOING {
             let hit = s.hit;
@@ -390,7 +390,7 @@ fn search(ws: &Words, fs: &Floats, p: Vec3, bound: DistHit) -> Searched
             whole: true,
         };
     }
-    let mut stack = [0usize; STACK];
+    let mut stack = [0u32; STACK];
     let mut keys = [0.0f32; STACK];
     run(ws, fs, p, bound, &mut stack, &mut keys)
 }

@@ -60,7 +60,7 @@ fn dist_in(kind: u32, fs: &Floats, i: usize, x: f32, y: f32, z: f32, t: f32) -> 
 fn guard(left: f32) -> f32
     ensures { λ t. ⌜ (T (number t) → T (lt (neg left) t)) ⌝ }
 {
-    let t = scalar::abs(left) * 0.000001 - left + 1e-37;
+    let t = sdf_near::size(left) * 0.000001 - left;
     if -left < t {
         return t;
     }
@@ -98,8 +98,8 @@ fn carve(ws: &Words, fs: &Floats, place: u32, n: u32, p: Vec3, d: f32, best: f32
     left
 }
 
-// The distance of the piece in row r, or t where it is no less. It gives back a number, as it is not inlined, and a hit
-// would go through memory.
+// The distance of the piece in row r, or t where it is no less. Small enough for the compiler to put it into the loops
+// over pieces; it gives back a number, as a hit would go through memory.
 fn piece_in(ws: &Words, fs: &Floats, r: usize, x: f32, y: f32, z: f32, t: f32) -> f32
     ensures { λ d. ⌜ (r < 1706
         → Near t (pieceDist (pieceAt (now (ws .entry)) (now (fs .entry)) r) (record { x = x; y = y; z = z })) d) ⌝ }

@@ -7,7 +7,7 @@ use Rattle.bvh_search.proofs.opened.Tie as tie
 
 returns : tie.Need-returns
 unfolding openedOf
-returns c = let test = c .before .before .before .before .before in
+returns c = let test = c .before .before .before .before in
     rw (lt-ltb _ 511 (test .before .before .if1 .taken), eq-eqb _ 0 (test .if2 .taken)) (c .children .ensures)
 
 returns-2 : tie.Need-returns-2
@@ -23,5 +23,5 @@ pub opened-spec : {M : Type 1} → statement M
 opened-spec =
     tie.close
     (tie.spec
-    (λ c. search needs) (λ c. search needs) (λ c κs. search needs) returns (λ c κs. search needs) returns-2
-    (λ c κs. search needs) returns-3)
+    (λ c. search needs) (λ c κs. search needs) returns (λ c κs. search needs) returns-2 (λ c κs. search needs)
+    returns-3)

@@ -14,8 +14,8 @@ returns c = λ e.
 returns-2 : tie.Need-returns-2
 unfolding steppedOf
 returns-2 c = λ e.
-    let test = c .before .before .before .before .before in
-    let calls = c .before .before in
+    let calls = c .before .before .before in
+    let test = calls .before .before .before in
     rw (
       sym (test .before .far-off .ensures e),
       test .if1 .left,
@@ -29,4 +29,4 @@ step-spec =
     tie.close
     (tie.spec
     (λ c κs. search needs) (λ c κs. search needs) (λ c κs. search needs) returns (λ c κs. search needs)
-    (λ c κs. search needs) (λ c κs. search needs) returns-2)
+    (λ c. search needs) (λ c κs. search needs) (λ c κs. search needs) returns-2)
