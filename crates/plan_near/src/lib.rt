@@ -7,8 +7,8 @@ ghost use lib.Ieee.{neg, lt};
 ghost use Rattle.float_order.specs.Inside.Order.{number};
 ghost use Rattle.sdf.specs.Shapes.{distOf};
 ghost use Rattle.sdf_near.specs.Inside.Near.{Near};
-ghost use Rattle.plan_near.specs.Inside.Rows.{shapeIn};
-ghost use Rattle.plan.specs.Sections.{cutterRow};
+ghost use Rattle.plan_near.specs.Inside.Rows.{eightLeft, shapeIn};
+ghost use Rattle.plan.specs.Sections.{cutterRow, tableRows};
 ghost use Rattle.plan.specs.Records.{wordOf, cutterAt};
 ghost use Rattle.plan.specs.Plan.{cutsBy, pieceAt, piecesFrom, planOf};
 ghost use Rattle.plan.specs.Nearest.{cutBy, carve, pieceDist, hitOf, closer, nearest, nothing, listHit};
@@ -27,7 +27,7 @@ const LAST: usize = 27288;
 // The distance of a kind and the eight floats from i on, or t where it is no less. The point goes by its three floats,
 // and the shape by its place: what is passed as a struct would go through memory.
 fn dist_in(kind: u32, fs: &Floats, i: usize, x: f32, y: f32, z: f32, t: f32) -> f32
-    ensures { λ d. ⌜ (i < 27288
+    ensures { λ d. ⌜ (i < eightLeft
         → Near t (distOf (shapeIn kind (now (fs .entry)) i) (record { x = x; y = y; z = z })) d) ⌝ }
 {
     if i >= LAST {
@@ -101,7 +101,7 @@ fn carve(ws: &Words, fs: &Floats, place: u32, n: u32, p: Vec3, d: f32, best: f32
 // The distance of the piece in row r, or t where it is no less. Small enough for the compiler to put it into the loops
 // over pieces; it gives back a number, as a hit would go through memory.
 fn piece_in(ws: &Words, fs: &Floats, r: usize, x: f32, y: f32, z: f32, t: f32) -> f32
-    ensures { λ d. ⌜ (r < 1706
+    ensures { λ d. ⌜ (r < tableRows
         → Near t (pieceDist (pieceAt (now (ws .entry)) (now (fs .entry)) r) (record { x = x; y = y; z = z })) d) ⌝ }
 {
     if r < plan::ROWS {
@@ -117,7 +117,7 @@ fn piece_in(ws: &Words, fs: &Floats, r: usize, x: f32, y: f32, z: f32, t: f32) -
 
 // The same; a plane that nothing cuts, as a room's mostly are, with no call.
 fn plane_in(ws: &Words, fs: &Floats, r: usize, x: f32, y: f32, z: f32, t: f32) -> f32
-    ensures { λ d. ⌜ (r < 1706
+    ensures { λ d. ⌜ (r < tableRows
         → Near t (pieceDist (pieceAt (now (ws .entry)) (now (fs .entry)) r) (record { x = x; y = y; z = z })) d) ⌝ }
 {
     if r < plan::ROWS {
@@ -139,9 +139,9 @@ fn plane_in(ws: &Words, fs: &Floats, r: usize, x: f32, y: f32, z: f32, t: f32) -
 // The nearer of the best hit and the piece in row r, whose distance is d, or no less than the best where d is that;
 // past the last row there is none.
 fn nearer_of(ws: &Words, r: usize, d: f32, best: DistHit) -> DistHit
-    ensures { λ h. ⌜ (r < 1706
+    ensures { λ h. ⌜ (r < tableRows
         → h ≡ cond (lt d (best .d)) (record { d = d; mat = wordOf (now (ws .entry)) (16 * r) }) best)
-        × (1706 ≤ r → h ≡ best) ⌝ }
+        × (tableRows ≤ r → h ≡ best) ⌝ }
 {
     if r < plan::ROWS {
         if d < best.d {

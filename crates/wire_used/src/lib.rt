@@ -6,6 +6,8 @@ ghost use mathlib.Core.Logic.{_⊎_};
 ghost use Prim.Native.Nat.{ℕ, _+_, _<_, _≤_};
 ghost use lib.ListN.{drop};
 ghost use Rattle.scalar.specs.F32.{f0};
+ghost use Rattle.plan.specs.Sections.{materials, planes, lights, objects};
+ghost use Rattle.plan.specs.Sections.{cutterPlaces, orderFirst, orderPlaces, tableWords};
 ghost use Rattle.plan.specs.Records.{wordOf, floatOf};
 ghost use Rattle.plan.specs.Plan.{seen};
 ghost use Rattle.wire.specs.Lent.{tableOf, askTable};
@@ -62,7 +64,7 @@ fn past(ws: &Words, r: usize, u: usize) -> usize
 
 // Where the cutters of n objects end, and at least u.
 fn ends(ws: &Words, n: u32) -> usize
-    ensures { λ e. ⌜ ((j : ℕ) → j < n → Ends (now (ws .entry)) e (113 + j)) ⌝ }
+    ensures { λ e. ⌜ ((j : ℕ) → j < n → Ends (now (ws .entry)) e (objects .first + j)) ⌝ }
 {
     let mut e: usize = 0;
     let mut j: u32 = 0;
@@ -93,7 +95,8 @@ fn before(ws: &Words, r: usize, v: usize) -> usize
 
 // Where the cutters of n planes begin, which are the last.
 fn begins(ws: &Words, n: u32) -> usize
-    ensures { λ e. ⌜ (e ≤ 1024) × ((j : ℕ) → j < n → Begins (now (ws .entry)) e (65 + j)) ⌝ }
+    ensures { λ e. ⌜ (e ≤ cutterPlaces)
+        × ((j : ℕ) → j < n → Begins (now (ws .entry)) e (planes .first + j)) ⌝ }
 {
     let mut e = PLACES;
     let mut j: u32 = 0;
@@ -106,11 +109,11 @@ fn begins(ws: &Words, n: u32) -> usize
 
 // The greatest word of the order, or more.
 fn last_object(ws: &Words) -> u32
-    ensures { λ m. ⌜ ((i : ℕ) → i < 256 → wordOf (now (ws .entry)) (27031 + i) ≤ m) ⌝ }
+    ensures { λ m. ⌜ ((i : ℕ) → i < orderPlaces → wordOf (now (ws .entry)) (orderFirst + i) ≤ m) ⌝ }
 {
     let mut m: u32 = 0;
     let mut i: usize = 0;
-    while i < 256 {
+    while i < plan::ORDER_WORDS {
         m = greater(m, word_in(ws, plan::ORDER + i));
         i += 1;
     }
@@ -119,9 +122,10 @@ fn last_object(ws: &Words) -> u32
 
 // Whether the counts are a plan's, and the order names none but m objects.
 fn in_order(ws: &Words, m: u32) -> bool
-    ensures { λ b. ⌜ (b ≡ true → (wordOf (now (ws .entry)) 0 ≤ 64) × (wordOf (now (ws .entry)) 1 ≤ 16)
-        × (wordOf (now (ws .entry)) 2 ≤ 16) × (m ≤ 256)
-        × ((i : ℕ) → i < 256 → wordOf (now (ws .entry)) (27031 + i) < m)) ⌝ }
+    ensures { λ b. ⌜ (b ≡ true → (wordOf (now (ws .entry)) (materials .count) ≤ materials .most)
+        × (wordOf (now (ws .entry)) (planes .count) ≤ planes .most)
+        × (wordOf (now (ws .entry)) (lights .count) ≤ lights .most) × (m ≤ objects .most)
+        × ((i : ℕ) → i < orderPlaces → wordOf (now (ws .entry)) (orderFirst + i) < m)) ⌝ }
 {
     if word_in(ws, plan::COUNT_MATERIALS) <= plan::MATERIALS {
         if word_in(ws, plan::COUNT_PLANES) <= plan::PLANES {
@@ -139,8 +143,8 @@ fn in_order(ws: &Words, m: u32) -> bool
 
 // The cutters' places that are not used, with m objects at most; none, where the table is no plan's.
 fn unused(ws: &Words, m: u32) -> Gap
-    ensures { λ g. ⌜ (g .from ≤ g .to) × (g .to ≤ 1024)
-        × (wordOf (now (ws .entry)) 3 ≤ m
+    ensures { λ g. ⌜ (g .from ≤ g .to) × (g .to ≤ cutterPlaces)
+        × (wordOf (now (ws .entry)) (objects .count) ≤ m
         → (g .to ≤ g .from) ⊎ Used (now (ws .entry)) (g .from) (g .to) m) ⌝ }
 {
     if in_order(ws, m) {
@@ -168,7 +172,7 @@ fn rest(t: &[u8], from: usize) -> &[u8]
 
 // The words from one place up to another are seen as floats.
 fn floats(ws: &Words, fs: &mut Floats, from: usize, to: usize)
-    ensures { λ _. ⌜ (from ≤ to → to ≤ 27296
+    ensures { λ _. ⌜ (from ≤ to → to ≤ tableWords
         → Seen (now (ws .entry)) (now (fs .entry)) (now (fs .exit)) from to) ⌝ }
 {
     // Only as a slice does a table tell the proof its length.
@@ -187,14 +191,14 @@ fn floats(ws: &Words, fs: &mut Floats, from: usize, to: usize)
 // The tables in one, with as many of the plan's cutters as are used.
 fn load(plan: &[u8], args: &[u8], nodes: &[u8], order: &[u8], ws: &mut Words, fs: &mut Floats)
     ensures { λ _. ⌜ (((i : ℕ) → wordOf (now (ws .entry)) i ≡ 0)
-        → ((i : ℕ) → i < 27296 → floatOf (now (fs .entry)) i ≡ f0)
+        → ((i : ℕ) → i < tableWords → floatOf (now (fs .entry)) i ≡ f0)
         → Spared (tableOf (now (plan .entry)) (now (args .entry)) (now (nodes .entry)) (now (order .entry)))
         (now (ws .exit)) × (now (fs .exit) ≡ seen (now (ws .exit)))) ⌝ }
 {
     wire::load_part(plan, ws, 0, HEADS);
     wire::load_part(args, ws, plan::ARGS, plan::NODES);
     wire::load_part(nodes, ws, plan::NODES, plan::ORDER);
-    wire::load_part(order, ws, plan::ORDER, plan::ORDER + 256);
+    wire::load_part(order, ws, plan::ORDER, plan::ORDER + plan::ORDER_WORDS);
     let g = unused(ws, greater(1, word_in(ws, plan::COUNT_OBJECTS)));
     let from = HEADS + 16 * g.from;
     let to = HEADS + 16 * g.to;
@@ -216,7 +220,7 @@ pub fn load_ask(
     fs: &mut Floats,
 )
     ensures { λ _. ⌜ (((i : ℕ) → wordOf (now (ws .entry)) i ≡ 0)
-        → ((i : ℕ) → i < 27296 → floatOf (now (fs .entry)) i ≡ f0)
+        → ((i : ℕ) → i < tableWords → floatOf (now (fs .entry)) i ≡ f0)
         → Spared
         (askTable need (now (plan .entry)) (now (nodes .entry)) (now (order .entry)) tree (now (args .entry)))
         (now (ws .exit)) × (now (fs .exit) ≡ seen (now (ws .exit)))) ⌝ }

@@ -6,6 +6,10 @@ use Rattle.sdf.specs.declared.Shape.{Shape}
 use Rattle.refusals.specs.Prims.{shapeOf}
 use Rattle.plan.specs.Records.{floatOf}
 
+-- the table has eight floats from any place before this one on
+abbrev pub eightLeft : ℕ
+eightLeft = 27288
+
 abbrev pub shapeIn : ℕ → List Float → ℕ → Shape
 shapeIn k f i =
     shapeOf k
