@@ -259,7 +259,17 @@ fn cone_at(g: f32, paba: f32, baba: f32, ra: f32, rb: f32, t: f32) -> f32
             return t;
         }
     }
-    cone_from(root_tests::quick_root(g), paba, cay, baba, ra, rb, rba, w, t)
+    cone_from(
+        root_tests::quick_root(g),
+        paba,
+        cay,
+        baba,
+        ra,
+        rb,
+        rba,
+        w,
+        t,
+    )
 }
 
 fn cone_body(pa: Vec3, ba: Vec3, baba: f32, ra: f32, rb: f32, t: f32) -> f32
