@@ -27,7 +27,7 @@ use Rattle.float_order.proofs.Order.{yes-of, is-yes, is-not, not-of, same-test,
 use Rattle.float_order.proofs.Order.{le-right, le-trans, lt-not-le, lt-of-not-le, lt-le, lt-le-trans, le-lt-trans}
 use Rattle.float_order.proofs.Order.{lt-right, le-top, top-le}
 use Rattle.float_order.proofs.Bounds.{finite-between}
-use Rattle.float_order.proofs.Rounding.{zero-is, no-debit}
+use Rattle.float_order.proofs.Rounding.{zero-is, no-debit, square-up, square-numbers}
 use Rattle.float_order.proofs.Roots.{plain-of, plain-number, root-top, root-mono}
 use Rattle.root_tests.specs.Inside.Tests.{most, usual, farOff, leftFirst, limitOf}
 
@@ -117,22 +117,44 @@ plain-no-nan (inf s) h = absurd h
 plain-no-nan (fin s m e) h = tt
 
 -- ---- a root against a guess
-pub reached
-    : (q w : Float) → T (plain q) → T (plain w) → le (mul binary64 w w) q ≡ true
-    → T (finite (rootOf q)) × T (le w (rootOf q))
-reached q w p h l = (plain-finite (rootOf q) (root-plain q p), reach-law w h q p (yes-of l))
+plain-plus : (x : Float) → T (plain x) → T (le zeroF x)
+plain-plus nan h = absurd h
+plain-plus (inf s) h = absurd h
+plain-plus (fin true m e) h = absurd h
+plain-plus (fin false m e) h = at-most→le zeroF (fin false m e) tt tt (omega arith)
 
-pub reached-zero : (q w : Float) → T (plain q) → le w f0 ≡ true → T (finite (rootOf q)) × T (le w (rootOf q))
-reached-zero q w p h = (
-  plain-finite (rootOf q) (root-plain q p),
-  le-trans w zeroF (rootOf q) (subst (λ (z : Float). T (le w z)) zero-is (yes-of h)) (plus (rootOf q) (root-plain q p)),
-)
-  where
-    plus : (x : Float) → T (plain x) → T (le zeroF x)
-    plus nan h = absurd h
-    plus (inf s) h = absurd h
-    plus (fin true m e) h = absurd h
-    plus (fin false m e) h = at-most→le zeroF (fin false m e) tt tt (omega arith)
+top-square : (s : Bool) → mul binary64 (inf s) (inf s) ≡ inf false
+unfolding mul
+top-square true = refl
+top-square false = refl
+
+-- whatever the guess: below zero it is reached, and the infinity's square is
+reached-plain
+    : (q w : Float) → T (plain q) → T (fits binary32 w) → T (le (mul binary64 w w) q) → T (le w (rootOf q))
+reached-plain q nan p f l = absurd (square-numbers binary64 nan (le-left (mul binary64 nan nan) q l))
+reached-plain q (inf s) p f l =
+    absurd (subst (λ (z : Float). T (plain z)) (top-le q (subst (λ (z : Float). T (le z q)) (top-square s) l)) p)
+reached-plain q (fin true m e) p f l =
+    le-trans (fin true m e) zeroF (rootOf q) (at-most→le (fin true m e) zeroF tt tt (omega arith))
+    (plain-plus (rootOf q) (root-plain q p))
+reached-plain q (fin false m e) p f l = reach-law (fin false m e) f q p l
+
+-- no square is below zero, so q is not
+pub reached
+    : (q w : Float) → T (fits binary32 q) → T (fits binary32 w) → le q most ≡ true
+    → le (mul binary64 w w) q ≡ true → T (finite (rootOf q)) × T (le w (rootOf q))
+reached q w f g k l =
+    let s : T (le (mul binary64 w w) q) = yes-of l in
+    let n = square-numbers binary64 w (le-left (mul binary64 w w) q s) in
+    let z : T (le zeroF q) = le-trans zeroF (mul binary64 w w) q (square-up binary64 w n) s in
+    let b : T (finite q) = finite-between zeroF q most tt (unfold ofBits in tt) z (yes-of k) in
+    ⊎-elim
+    (λ c. let p = plain-of q f b c in (plain-finite (rootOf q) (root-plain q p), reached-plain q w p g s))
+    (λ e.
+    let y : T (le w zeroF) = subst (λ (x : Float). T (le w x)) zero-root
+    (reached-plain zeroF w zero-fits g (le-trans (mul binary64 w w) q zeroF s (e .1))) in
+    rw (e .0) (b, le-trans w zeroF q y z))
+    (sort q z)
 
 pub stayed
     : (q w : Float) → T (plain q) → T (plain w) → le q (mul binary64 w w) ≡ true

@@ -113,11 +113,10 @@ pub fn quick_root(x: f32) -> f32
 pub fn reaches(q: f32, w: f32) -> bool
     ensures { λ x. ⌜ (x ≡ true → T (finite (rootOf q)) × T (le w (rootOf q))) ⌝ }
 {
-    if usual(q) {
-        if usual(w) {
-            return root::at_least(q, w as f64 * w as f64);
+    if q <= 3.4028235e38 {
+        if w == w {
+            return w as f64 * w as f64 <= q as f64;
         }
-        return w <= 0.0;
     }
     false
 }

@@ -1,11 +1,13 @@
--- `root_tests::reaches` meets its contract: by `reach-law`, and no root is below zero. Assumes nothing.
-use mathlib.Core.Path.{_≡_, sym, subst, _∙_}
+-- `root_tests::reaches` meets its contract: by `reached`, with numbers cast. Assumes nothing.
+use mathlib.Core.Path.{_≡_, sym, subst}
 use mathlib.Core.Bool.{true, false, false≢true}
 use lib.Dec.{T}
 use lib.Ieee.{binary32, fits}
+use Rattle.root.proofs.Nans.{equal-no-nan}
 use Rattle.root.proofs.Whole.{cast-ok}
-use Rattle.root_tests.proofs.Squares.{usual-plain, plain-no-nan, reached, reached-zero}
-use borrow.Author.Needs.{needs}
+use Rattle.float_order.proofs.Order.{yes-of, le-left, number-is}
+use Rattle.root_tests.specs.Inside.Tests.{most}
+use Rattle.root_tests.proofs.Squares.{reached}
 use Rattle.root_tests.proofs.reaches.Statement.{statement}
 use Rattle.root_tests.proofs.reaches.Tie as tie
 
@@ -19,40 +21,33 @@ held-w c = subst T (sym (c .good .1 .0 .1)) tt
 never : {A : Type 0} → false ≡ true → A
 never e = absurd (false≢true e)
 
-float-to-float-at-least : tie.Need-float-to-float-at-least
-float-to-float-at-least c = let i = c .before in
-    let s = i .before .before .before .before in
-    cast-ok (s .args .w) (held-w s)
-    (plain-no-nan (s .args .w) (usual-plain (s .args .w) (held-w s) (sym (i .before .usual2 .ensures) ∙ i .if2 .taken)))
+float-to-float-result : tie.Need-float-to-float-result
+float-to-float-result c =
+    let i = c .before in
+    let s = i .before .before in
+    cast-ok (s .args .w) (held-w s) (equal-no-nan (s .args .w) (i .if2 .taken))
 
-float-to-float-at-least-2 : tie.Need-float-to-float-at-least-2
-float-to-float-at-least-2 c = let i = c .before .before in
-    let s = i .before .before .before .before in
-    cast-ok (s .args .w) (held-w s)
-    (plain-no-nan (s .args .w) (usual-plain (s .args .w) (held-w s) (sym (i .before .usual2 .ensures) ∙ i .if2 .taken)))
+float-to-float-result-2 : tie.Need-float-to-float-result-2
+float-to-float-result-2 c =
+    let i = c .before .before in
+    let s = i .before .before in
+    cast-ok (s .args .w) (held-w s) (equal-no-nan (s .args .w) (i .if2 .taken))
+
+float-to-float-result-3 : tie.Need-float-to-float-result-3
+float-to-float-result-3 c =
+    let j = c .before .before .before .before in
+    let s = j .before in
+    cast-ok (s .args .q) (held-q s)
+    (subst T (number-is (s .args .q)) (le-left (s .args .q) most (yes-of (j .if1 .taken))))
 
 returns : tie.Need-returns
 returns c = λ e.
-    let i = c .before .before .before in
-    let j = i .before .before in
-    let s = j .before .before in
-    let a = s .args in
-    reached (a .q) (a .w) (usual-plain (a .q) (held-q s) (sym (j .before .usual .ensures) ∙ j .if1 .taken))
-    (usual-plain (a .w) (held-w s) (sym (i .before .usual2 .ensures) ∙ i .if2 .taken)) (sym (c .at-least .ensures) ∙ e)
-
-returns-2 : tie.Need-returns-2
-returns-2 c = λ e.
-    let j = c .before .before in
-    let s = j .before .before in
-    reached-zero (s .args .q) (s .args .w)
-    (usual-plain (s .args .q) (held-q s) (sym (j .before .usual .ensures) ∙ j .if1 .taken)) e
-
-returns-3 : tie.Need-returns-3
-returns-3 c = λ e. never e
+    let j = c .before .before .before .before in
+    let s = j .before in
+    reached (s .args .q) (s .args .w) (held-q s) (held-w s) (j .if1 .taken) e
 
 pub reaches-spec : {M : Type 1} → statement M
 reaches-spec =
     tie.close
     (tie.spec
-    (λ c κs. search needs) (λ c κs. search needs) float-to-float-at-least float-to-float-at-least-2
-    (λ c κs. search needs) returns returns-2 returns-3)
+    float-to-float-result float-to-float-result-2 float-to-float-result-3 returns (λ c e. never e) (λ c e. never e))
