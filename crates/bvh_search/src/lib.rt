@@ -27,7 +27,7 @@ const STACK: usize = 64;
 
 const WAIT_MOST: usize = 62;
 
-// A tree has no more nodes than this, and so no more to pop; the order has no more places.
+// The most nodes of a tree, so the most that are popped, and the order's places.
 const NODES: u32 = 511;
 
 const PLACES: u32 = 256;

@@ -128,7 +128,7 @@ unfolding mul
 top-square true = refl
 top-square false = refl
 
--- whatever the guess: below zero it is reached, and the infinity's square is
+-- whatever the guess: one below zero is reached by every root, and the infinity's square by no plain q
 reached-plain
     : (q w : Float) → T (plain q) → T (fits binary32 w) → T (le (mul binary64 w w) q) → T (le w (rootOf q))
 reached-plain q nan p f l = absurd (square-numbers binary64 nan (le-left (mul binary64 nan nan) q l))

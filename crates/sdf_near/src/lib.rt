@@ -19,8 +19,8 @@ pub fn size(x: f32) -> f32
     0.0 - x
 }
 
-// What a root is to reach so that, less r, it is at least t, or a little more; always above zero, where one test of
-// squares is enough.
+// What a root is to reach so that, less r, it is at least t, or a little more; always above zero, as of what is below
+// the square says too much.
 fn guess(t: f32, r: f32) -> f32 {
     scalar::max((t + r) * 1.000001, 1e-30)
 }
