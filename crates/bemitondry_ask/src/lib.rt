@@ -30,7 +30,9 @@ pub fn query(before: u32, tree: u32, ws: &Words, fs: &Floats) -> Reply
             mat: ws[plan::ARGS + 4],
         };
         let p = plan::vec_at(fs, plan::ARGS_ROW as usize, 0);
-        let s = bvh_search::hit(tree, ws, fs, p, bound);
+        let mut stack = [0u32; bvh_search::STACK];
+        let mut keys = [0.0f64; bvh_search::STACK];
+        let s = bvh_search::hit(tree, ws, fs, &mut stack, &mut keys, p, bound);
         return found_reply(s.hit, s.popped, s.evaluated);
     }
     reply::refused(n)
@@ -47,7 +49,10 @@ pub fn dist_mat(before: u32, tree: u32, ws: &Words, fs: &Floats) -> Reply
         ask_test::tree_number(tree, ws, fs),
     );
     if n == 0 {
-        return found_reply(bvh_search::field(tree, ws, fs, p), 0, 0);
+        let mut stack = [0u32; bvh_search::STACK];
+        let mut keys = [0.0f64; bvh_search::STACK];
+        let h = bvh_search::field(tree, ws, fs, &mut stack, &mut keys, p);
+        return found_reply(h, 0, 0);
     }
     reply::refused(n)
 }

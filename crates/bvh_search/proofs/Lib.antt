@@ -1,4 +1,5 @@
 pub mod Gaps
+pub mod Plus
 pub mod Leaves
 pub mod Stack
 pub mod Machine

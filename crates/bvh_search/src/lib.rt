@@ -4,7 +4,8 @@ ghost use mathlib.Core.Path.{_≡_};
 ghost use mathlib.Core.List.{[], _∷_};
 ghost use Prim.Native.Nat.{_+_, _-_};
 ghost use lib.ListN.{length, getD, set};
-ghost use lib.Ieee.{nan};
+ghost use lib.Dec.{T};
+ghost use lib.Ieee.{binary32, nan, fits};
 ghost use Rattle.scalar.specs.F32.{f0};
 ghost use Rattle.scalar.specs.Extremes.{fmax};
 ghost use Rattle.root_tests.specs.Inside.Tests.{limitOf};
@@ -13,7 +14,7 @@ ghost use Rattle.bvh_rules.specs.Nodes.{nodesMost, nodesOf, orderOf};
 ghost use Rattle.bvh_search.specs.Search.{pieceIn, leafScan, placesOf, runOf, searchOf};
 ghost use Rattle.bvh_search.specs.Field.{hitBy, fieldBy};
 ghost use Rattle.bvh_search.specs.Inside.Machine.{boxSquare, holding, ended, popping, nextOf, scannedOf};
-ghost use Rattle.bvh_search.specs.Inside.Machine.{tables, squareAt};
+ghost use Rattle.bvh_search.specs.Inside.Machine.{tables, squareAt, squaresAt};
 ghost use Rattle.bvh_search.specs.Inside.Machine.{childrenOf, openedOf, steppedOf};
 use bvh_rules::Node;
 use plan::DistHit;
@@ -22,8 +23,14 @@ use plan::Words;
 use sdf::Aabb;
 use vec::Vec3;
 
+// The stack of waiting nodes, and their keys. A search needs nothing of what they hold, so a march lends the same ones
+// each time, and they are made once.
+pub type Stack = [u32; 64];
+
+pub type Keys = [f64; 64];
+
 // The stack's places, and how many may wait where two more are to find room.
-const STACK: usize = 64;
+pub const STACK: usize = 64;
 
 const WAIT_MOST: usize = 62;
 
@@ -53,10 +60,11 @@ pub struct Scan {
     pub evaluated: u32,
 }
 
-// The node in hand with its key, how many wait, the best hit with the limit of its distance, and how the search stands.
+// The node in hand with its key, which is the square of its box distance, an f32 held as f64; how many wait; the best
+// hit with the limit of its distance; and how the search stands.
 pub struct State {
     pub at: u32,
-    pub key: f32,
+    pub key: f64,
     pub sp: usize,
     pub hit: DistHit,
     pub lim: f64,
@@ -95,6 +103,32 @@ fn square_at(ws: &Words, fs: &Floats, p: Vec3, at: u32) -> f32
     box_square(p, v.hull)
 }
 
+// The squares of two nodes.
+pub struct Pair {
+    pub l: f32,
+    pub r: f32,
+}
+
+// Where both are in the table, as they are in every tree that stands, neither waits for a test of the other's place.
+fn squares(ws: &Words, fs: &Floats, p: Vec3, l: u32, r: u32) -> Pair
+    ensures { λ k. ⌜ k ≡ squaresAt (nodesOf (now (ws .entry))) (nodesOf (now (fs .entry))) p l r ⌝ }
+{
+    if l < NODES {
+        if r < NODES {
+            let a = bvh_rules::node_at(ws, fs, l as usize);
+            let b = bvh_rules::node_at(ws, fs, r as usize);
+            return Pair {
+                l: box_square(p, a.hull),
+                r: box_square(p, b.hull),
+            };
+        }
+    }
+    Pair {
+        l: square_at(ws, fs, p, l),
+        r: square_at(ws, fs, p, r),
+    }
+}
+
 fn places(v: Node) -> u32
     ensures { λ r. ⌜ r ≡ placesOf v ⌝ }
 {
@@ -130,7 +164,7 @@ fn leaf_hit(ws: &Words, fs: &Floats, p: Vec3, s: u32, c: u32, best: DistHit) -> 
     Scan { hit, evaluated: c }
 }
 
-fn place_in(stack: &[u32; 64], k: usize) -> u32
+fn place_in(stack: &Stack, k: usize) -> u32
     ensures { λ r. ⌜ r ≡ getD (now (stack .entry)) k 0 ⌝ }
 {
     if k < STACK {
@@ -140,18 +174,18 @@ fn place_in(stack: &[u32; 64], k: usize) -> u32
     0
 }
 
-fn key_in(keys: &[f32; 64], k: usize) -> f32
+fn key_in(keys: &Keys, k: usize) -> f64
     ensures { λ r. ⌜ r ≡ getD (now (keys .entry)) k nan ⌝ }
 {
     if k < STACK {
         return keys[k];
     }
-    let _keys: &[f32] = keys;
+    let _keys: &[f64] = keys;
     0.0 / 0.0
 }
 
 // The state with another node in hand.
-fn holding(s: State, at: u32, key: f32, sp: usize) -> State
+fn holding(s: State, at: u32, key: f64, sp: usize) -> State
     ensures { λ r. ⌜ r ≡ holding s at key sp ⌝ }
 {
     let hit = s.hit;
@@ -200,7 +234,7 @@ fn popping(s: State) -> State
 }
 
 // The next waiting node in hand, or the end.
-fn next(stack: &[u32; 64], keys: &[f32; 64], s: State) -> State
+fn next(stack: &Stack, keys: &Keys, s: State) -> State
     ensures { λ r. ⌜ r ≡ nextOf (now (stack .entry)) (now (keys .entry)) s ⌝ }
 {
     if s.sp == 0 {
@@ -211,15 +245,7 @@ fn next(stack: &[u32; 64], keys: &[f32; 64], s: State) -> State
 }
 
 // A leaf's objects evaluated, and the next node in hand.
-fn scanned(
-    ws: &Words,
-    fs: &Floats,
-    p: Vec3,
-    stack: &[u32; 64],
-    keys: &[f32; 64],
-    s: State,
-    v: Node,
-) -> State
+fn scanned(ws: &Words, fs: &Floats, p: Vec3, stack: &Stack, keys: &Keys, s: State, v: Node) -> State
     ensures { λ r. ⌜ r ≡ scannedOf (orderOf (now (ws .entry)))
         (now (ws .entry)) (now (fs .entry)) p (now (stack .entry)) (now (keys .entry)) s v ⌝ }
 {
@@ -239,7 +265,7 @@ fn scanned(
 }
 
 // A node with its key, waiting at place sp.
-fn wait(stack: &mut [u32; 64], keys: &mut [f32; 64], sp: usize, at: u32, key: f32)
+fn wait(stack: &mut Stack, keys: &mut Keys, sp: usize, at: u32, key: f64)
     ensures { λ _. ⌜ (now (stack .exit) ≡ set (now (stack .entry)) sp at)
         × (now (keys .exit) ≡ set (now (keys .entry)) sp key) ⌝ }
 {
@@ -249,7 +275,7 @@ fn wait(stack: &mut [u32; 64], keys: &mut [f32; 64], sp: usize, at: u32, key: f3
         return;
     }
     let _stack: &[u32] = stack;
-    let _keys: &[f32] = keys;
+    let _keys: &[f64] = keys;
 }
 
 // The children of the node in hand: the nearer one in hand, the farther one waiting.
@@ -257,8 +283,8 @@ fn children(
     ws: &Words,
     fs: &Floats,
     p: Vec3,
-    stack: &mut [u32; 64],
-    keys: &mut [f32; 64],
+    stack: &mut Stack,
+    keys: &mut Keys,
     s: State,
     l: u32,
     r: u32,
@@ -270,9 +296,10 @@ fn children(
     if s.sp > WAIT_MOST {
         return ended(s, FULL);
     }
-    let kl = square_at(ws, fs, p, l);
-    let kr = square_at(ws, fs, p, r);
-    if root_tests::left_first(kl, kr) {
+    let k = squares(ws, fs, p, l, r);
+    let kl = k.l as f64;
+    let kr = k.r as f64;
+    if root_tests::left_first(k.l, k.r, kl, kr) {
         wait(stack, keys, s.sp, r, kr);
         return holding(s, l, kl, s.sp + 1);
     }
@@ -285,8 +312,8 @@ fn opened(
     ws: &Words,
     fs: &Floats,
     p: Vec3,
-    stack: &mut [u32; 64],
-    keys: &mut [f32; 64],
+    stack: &mut Stack,
+    keys: &mut Keys,
     s: State,
     v: Node,
 ) -> State
@@ -304,15 +331,9 @@ fn opened(
 }
 
 // One pop.
-fn step(
-    ws: &Words,
-    fs: &Floats,
-    p: Vec3,
-    stack: &mut [u32; 64],
-    keys: &mut [f32; 64],
-    s: State,
-) -> State
-    ensures { λ x. ⌜ (s .lim ≡ limitOf (s .hit .d) → tables (now (stack .exit)) (now (keys .exit)) x
+fn step(ws: &Words, fs: &Floats, p: Vec3, stack: &mut Stack, keys: &mut Keys, s: State) -> State
+    ensures { λ x. ⌜ (s .lim ≡ limitOf (s .hit .d) → T (fits binary32 (s .key))
+        → tables (now (stack .exit)) (now (keys .exit)) x
         ≡ steppedOf (nodesOf (now (ws .entry))) (nodesOf (now (fs .entry))) (orderOf (now (ws .entry)))
         (now (ws .entry)) (now (fs .entry)) p (now (stack .entry)) (now (keys .entry)) s) ⌝ }
 {
@@ -337,18 +358,18 @@ fn run(
     fs: &Floats,
     p: Vec3,
     bound: DistHit,
-    stack: &mut [u32; 64],
-    keys: &mut [f32; 64],
+    stack: &mut Stack,
+    keys: &mut Keys,
 ) -> Searched
     ensures { λ r. ⌜ r ≡ runOf (nodesOf (now (ws .entry))) (nodesOf (now (fs .entry))) (orderOf (now (ws .entry)))
         (now (ws .entry)) (now (fs .entry)) p nodesMost (0 ∷ []) bound 0 0 ⌝ }
 {
     // Only as a slice does a table tell the proof its length.
     let _stack: &[u32] = stack;
-    let _keys: &[f32] = keys;
+    let _keys: &[f64] = keys;
     let mut s = State {
         at: 0,
-        key: square_at(ws, fs, p, 0),
+        key: square_at(ws, fs, p, 0) as f64,
         sp: 0,
         hit: bound,
         lim: root_tests::limit(bound.d),
@@ -378,7 +399,14 @@ fn run(
 }
 
 // The nearest object by the tree, from a bound with its material.
-fn search(ws: &Words, fs: &Floats, p: Vec3, bound: DistHit) -> Searched
+fn search(
+    ws: &Words,
+    fs: &Floats,
+    stack: &mut Stack,
+    keys: &mut Keys,
+    p: Vec3,
+    bound: DistHit,
+) -> Searched
     ensures { λ r. ⌜ r ≡ searchOf (nodesOf (now (ws .entry))) (nodesOf (now (fs .entry))) (orderOf (now (ws .entry)))
         (now (ws .entry)) (now (fs .entry)) p bound ⌝ }
 {
@@ -390,17 +418,23 @@ fn search(ws: &Words, fs: &Floats, p: Vec3, bound: DistHit) -> Searched
             whole: true,
         };
     }
-    let mut stack = [0u32; STACK];
-    let mut keys = [0.0f32; STACK];
-    run(ws, fs, p, bound, &mut stack, &mut keys)
+    run(ws, fs, p, bound, stack, keys)
 }
 
 // The nearest object from a bound: by the tree where it is 1, and else by the list, which evaluates every object.
-pub fn hit(tree: u32, ws: &Words, fs: &Floats, p: Vec3, bound: DistHit) -> Searched
+pub fn hit(
+    tree: u32,
+    ws: &Words,
+    fs: &Floats,
+    stack: &mut Stack,
+    keys: &mut Keys,
+    p: Vec3,
+    bound: DistHit,
+) -> Searched
     ensures { λ r. ⌜ r ≡ hitBy tree (now (ws .entry)) (now (fs .entry)) p bound ⌝ }
 {
     if tree == 1 {
-        return search(ws, fs, p, bound);
+        return search(ws, fs, stack, keys, p, bound);
     }
     Searched {
         hit: plan_near::query_linear(ws, fs, p, bound),
@@ -411,9 +445,24 @@ pub fn hit(tree: u32, ws: &Words, fs: &Floats, p: Vec3, bound: DistHit) -> Searc
 }
 
 // The source's `dist_mat`: planes, then objects.
-pub fn field(tree: u32, ws: &Words, fs: &Floats, p: Vec3) -> DistHit
+pub fn field(
+    tree: u32,
+    ws: &Words,
+    fs: &Floats,
+    stack: &mut Stack,
+    keys: &mut Keys,
+    p: Vec3,
+) -> DistHit
     ensures { λ r. ⌜ r ≡ fieldBy tree (now (ws .entry)) (now (fs .entry)) p ⌝ }
 {
-    let s = hit(tree, ws, fs, p, plan_near::planes_hit(ws, fs, p));
+    let s = hit(
+        tree,
+        ws,
+        fs,
+        stack,
+        keys,
+        p,
+        plan_near::planes_hit(ws, fs, p),
+    );
     s.hit
 }

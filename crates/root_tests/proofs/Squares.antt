@@ -76,9 +76,6 @@ root-le x y f g h k =
     (λ q. rw (q .0) (le-trans x zeroF (rootOf y) (q .1) (root-plus y g j)))
     (sort x h)
 
-not-below : (x : Float) → le f0 x ≡ true → T (le zeroF x)
-not-below x e = subst (λ (z : Float). T (le z x)) zero-is (yes-of e)
-
 pub positive-clear : (x : Float) → T (lt zeroF x) → T (clear x)
 positive-clear nan h = absurd (unfold lt in h)
 positive-clear (inf true) h = absurd (lt-not-le zeroF (inf true) h (bottom-le zeroF tt))
@@ -290,11 +287,6 @@ clear-apart l (inf false) p f c h k =
 clear-apart l (fin true m e) p f c h k = absurd c
 clear-apart l (fin false m e) p f c h k = plain-apart l (fin false m e) p f h k
 
--- what the code works out where l is no number
-pub no-apart : (l r : Float) → eq l l ≡ false → false ≡ le (mul binary64 l apartBy) r
-unfolding mul le
-no-apart l r e = rw (unequal-nan l e)
-
 no-more : mul binary64 zeroF apartBy ≡ zeroF
 unfolding mul ofBits round
 no-more = refl
@@ -318,14 +310,14 @@ roots-apart l r f g h j k =
     finite-plain (fin true m e) r f d j = absurd d
     finite-plain (fin false m e) r f d j = f
 
-module _ (l r : Float) (fl : T (fits binary32 l)) (fr : T (fits binary32 r)) (hl : le f0 l ≡ true)
-    (hr : le f0 r ≡ true) where
+module _ (l r : Float) (fl : T (fits binary32 l)) (fr : T (fits binary32 r)) (hl : T (le zeroF l))
+    (hr : T (le zeroF r)) where
   pub right-first : le r l ≡ true → false ≡ leftFirst l r
   unfolding leftFirst
-  right-first e = sym (is-not (λ h. lt-not-le (rootOf l) (rootOf r) h (root-le r l fr fl (not-below r hr) (yes-of e))))
+  right-first e = sym (is-not (λ h. lt-not-le (rootOf l) (rootOf r) h (root-le r l fr fl hr (yes-of e))))
 
   pub parted : le r l ≡ false → le (mul binary64 l apartBy) r ≡ true → true ≡ leftFirst l r
   unfolding leftFirst
   parted e k =
-      sym (is-yes (roots-apart l r fl fr (not-below l hl)
-      (lt-of-not-le l r (le-right zeroF l (not-below l hl)) (le-right zeroF r (not-below r hr)) (not-of e)) (yes-of k)))
+      sym (is-yes (roots-apart l r fl fr hl
+      (lt-of-not-le l r (le-right zeroF l hl) (le-right zeroF r hr) (not-of e)) (yes-of k)))

@@ -2,10 +2,10 @@
 ghost use mathlib.Core.Path.{_≡_};
 ghost use mathlib.Core.Bool.{true};
 ghost use lib.Dec.{T};
-ghost use lib.Ieee.{binary64, mul, le};
+ghost use lib.Ieee.{binary32, fits, le};
 ghost use lib.Ieee.Scale.{finite};
 ghost use Rattle.root.specs.Root.{rootOf};
-ghost use Rattle.root.specs.Inside.Bar.{apartBy};
+ghost use Rattle.float_order.specs.Inside.Order.{zeroF};
 ghost use Rattle.root_tests.specs.Inside.Tests.{usual, farOff, leftFirst, limitOf};
 
 // Whether x is above zero and finite.
@@ -31,37 +31,24 @@ pub fn limit(d: f32) -> f64
     0.0 / 0.0
 }
 
-// Whether the root of s is at least d, whose limit is at hand.
-pub fn far_off(s: f32, d: f32, lim: f64) -> bool
-    ensures { λ r. ⌜ (lim ≡ limitOf d → r ≡ farOff s d) ⌝ }
+// Whether the root of s, an f32's value, is at least d, whose limit is at hand.
+pub fn far_off(s: f64, d: f32, lim: f64) -> bool
+    ensures { λ r. ⌜ (lim ≡ limitOf d → T (fits binary32 s) → r ≡ farOff s d) ⌝ }
 {
-    root::at_least(s, lim)
+    lim <= s
 }
 
-// Whether r is at least l and a millionth of it, worked out in f64, which holds it. Where l is less than r their roots
-// are then apart too.
-fn apart(l: f32, r: f32) -> bool
-    ensures { λ x. ⌜ x ≡ le (mul binary64 l apartBy) r ⌝ }
+// Whether the root of l is less than that of r, where neither is below zero, and a and b are they, held as f64. Roots
+// are taken only where the two are all but equal: where r is at least l and a millionth of it, worked out in f64, which
+// holds it, their roots are apart too.
+pub fn left_first(l: f32, r: f32, a: f64, b: f64) -> bool
+    ensures { λ x. ⌜ (a ≡ l → b ≡ r → T (le zeroF l) → T (le zeroF r) → x ≡ leftFirst l r) ⌝ }
 {
-    if l == l {
-        return root::at_least(r, l as f64 * 1.00000095367431640625);
+    if b <= a {
+        return false;
     }
-    false
-}
-
-// Whether the root of l is less than that of r: roots are taken only where the two are all but equal.
-pub fn left_first(l: f32, r: f32) -> bool
-    ensures { λ x. ⌜ x ≡ leftFirst l r ⌝ }
-{
-    if l >= 0.0 {
-        if r >= 0.0 {
-            if r <= l {
-                return false;
-            }
-            if apart(l, r) {
-                return true;
-            }
-        }
+    if a * 1.00000095367431640625 <= b {
+        return true;
     }
     root::root(l) < root::root(r)
 }

@@ -85,9 +85,11 @@ pub fn trace(tree: u32, ws: &Words, fs: &Floats, ro: Vec3, rd: Vec3, tmin: f32, 
 {
     let mut t = tmin;
     let mut steps: u32 = 0;
+    let mut stack = [0u32; bvh_search::STACK];
+    let mut keys = [0.0f64; bvh_search::STACK];
     while steps < MAX_STEPS {
         let p = point_at(ro, rd, t);
-        let h = bvh_search::field(tree, ws, fs, p);
+        let h = bvh_search::field(tree, ws, fs, &mut stack, &mut keys, p);
         steps += 1;
         match stepped(h, p, t, tmax) {
             Step::Found(hit) => return Traced::Met(hit, steps),
@@ -173,9 +175,12 @@ pub fn soft_shadow(
         t: tmin,
     };
     let mut steps: u32 = 0;
+    let mut stack = [0u32; bvh_search::STACK];
+    let mut keys = [0.0f64; bvh_search::STACK];
     while steps < SHADOW_STEPS {
         if c.t < tmax {
-            let h = bvh_search::field(tree, ws, fs, point_at(ro, rd, c.t));
+            let p = point_at(ro, rd, c.t);
+            let h = bvh_search::field(tree, ws, fs, &mut stack, &mut keys, p);
             steps += 1;
             match passed_of(c, h.d, k) {
                 Passed::Dark => return Shadow {

@@ -98,7 +98,7 @@ impl Vec3 {
     pub fn length(self) -> f32
         ensures { λ r. ⌜ r ≡ vlength self ⌝ }
     {
-        root::root(self.dot(self))
+        root_tests::quick_root(self.dot(self))
     }
 
     pub fn normalize(self) -> Vec3

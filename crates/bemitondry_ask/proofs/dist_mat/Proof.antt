@@ -10,7 +10,7 @@ use Rattle.bemitondry_ask.proofs.dist_mat.Tie as tie
 returns : tie.Need-returns
 unfolding distMatReply replyOf
 returns c =
-    let t = c .before .before in
+    let t = c .before .before .before .before in
     let n = t .before in
     let s = n .before .before in
     let w = s .before in

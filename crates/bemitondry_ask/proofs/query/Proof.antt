@@ -10,7 +10,8 @@ use Rattle.bemitondry_ask.proofs.query.Tie as tie
 returns : tie.Need-returns
 unfolding queryReply replyOf
 returns c =
-    let t = c .before .before .before .before .before in
+    let p = c .before .before .before .before in
+    let t = p .before .before .before in
     let n = t .before in
     rw (
       sym (n .before .before .query-number .ensures),
@@ -18,7 +19,7 @@ returns c =
       sym (n .lower .ensures),
       eq-eqb _ 0 (t .if1 .taken),
     )
-    (rw (c .found-reply .ensures, c .before .hit .ensures, c .before .before .vec-at .ensures))
+    (rw (c .found-reply .ensures, c .before .hit .ensures, p .vec-at .ensures))
 
 returns-2 : tie.Need-returns-2
 unfolding queryReply replyOf

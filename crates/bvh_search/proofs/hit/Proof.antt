@@ -7,7 +7,7 @@ use Rattle.bvh_search.proofs.hit.Tie as tie
 
 returns : tie.Need-returns
 unfolding hitBy
-returns c = rw (eq-eqb _ 1 (c .before .if1 .taken)) (c .search .ensures)
+returns c = rw (eq-eqb _ 1 (c .before .before .before .if1 .taken)) (c .search .ensures)
 
 returns-2 : tie.Need-returns-2
 unfolding hitBy

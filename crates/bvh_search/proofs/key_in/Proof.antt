@@ -2,14 +2,14 @@
 use native.Mathlib.Omega.{arith}
 use mathlib.Core.Path.{sym, _∙_}
 use lib.ListN.{List·getD-eq-default}
-use lib.Ieee.{nan}
-use Rattle.root.proofs.Nans.{zero-by-zero}
+use lib.Ieee.{nan, ofBits, div}
 use borrow.Author.Needs.{needs}
 use Rattle.bvh_search.proofs.key_in.Statement.{statement}
 use Rattle.bvh_search.proofs.key_in.Tie as tie
 
 returns-2 : tie.Need-returns-2
-returns-2 c = let a = c .before .before .args in zero-by-zero ∙ sym (List·getD-eq-default (a .keys .now) nan (omega (arith, c .-keys .given .0, c .before .if1 .left)))
+unfolding ofBits div
+returns-2 c = let a = c .before .before .args in sym (List·getD-eq-default (a .keys .now) nan (omega (arith, c .-keys .given .0, c .before .if1 .left)))
 
 pub key-in-spec : {M : Type 1} → statement M
 key-in-spec = tie.close (tie.spec

@@ -7,17 +7,17 @@ use Rattle.bvh_search.proofs.step.Tie as tie
 
 returns : tie.Need-returns
 unfolding steppedOf
-returns c = λ e.
+returns c = λ e f.
     let test = c .before .before .before .before in
-    rw (sym (test .before .far-off .ensures e), test .if1 .taken, c .next .ensures, c .before .popping .ensures)
+    rw (sym (test .before .far-off .ensures e f), test .if1 .taken, c .next .ensures, c .before .popping .ensures)
 
 returns-2 : tie.Need-returns-2
 unfolding steppedOf
-returns-2 c = λ e.
+returns-2 c = λ e f.
     let calls = c .before .before .before in
     let test = calls .before .before .before in
     rw (
-      sym (test .before .far-off .ensures e),
+      sym (test .before .far-off .ensures e f),
       test .if1 .left,
       sym (calls .popping2 .ensures),
       sym (c .before .node-at .ensures),

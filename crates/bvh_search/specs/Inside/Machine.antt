@@ -15,6 +15,7 @@ use Rattle.bvh_rules.specs.declared.Node.{Node}
 use Rattle.bvh_rules.specs.Nodes.{nodesMost, nodeAt}
 use Rattle.bvh_search.specs.declared.Scan.{Scan}
 use Rattle.bvh_search.specs.declared.State.{State}
+use Rattle.bvh_search.specs.declared.Pair.{Pair}
 use Rattle.bvh_search.specs.Search.{leafScan, placesOf}
 
 -- the square of a box distance
@@ -96,6 +97,9 @@ twoOf stack keys s a ka b kb = tables (set stack (s .sp) a) (set keys (s .sp) ka
 
 unfoldable pub squareAt : List ℕ → List Float → Vec3 → ℕ → Float
 squareAt nw nf p a = boxSquare p (nodeAt nw nf a .hull)
+
+abbrev pub squaresAt : List ℕ → List Float → Vec3 → ℕ → ℕ → Pair
+squaresAt nw nf p a b = record { l = squareAt nw nf p a; r = squareAt nw nf p b }
 
 -- two children: the farther one waits
 unfoldable pub childrenOf : List ℕ → List Float → Vec3 → List ℕ → List Float → State → ℕ → ℕ → Tables

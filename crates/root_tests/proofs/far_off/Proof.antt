@@ -3,21 +3,15 @@ use mathlib.Core.Path.{sym, subst}
 use lib.Dec.{T}
 use lib.Ieee.{binary32, fits}
 use Rattle.root_tests.proofs.Squares.{far-by-limit}
-use borrow.Author.Needs.{needs}
 use Rattle.root_tests.proofs.far_off.Statement.{statement}
 use Rattle.root_tests.proofs.far_off.Tie as tie
 
 -- what owning an `f32` tells: the format holds it
-held-s : (c : tie.Start) → T (fits binary32 (c .args .s))
-held-s c = subst T (sym (c .good .0 .1)) tt
-
 held-d : (c : tie.Start) → T (fits binary32 (c .args .d))
 held-d c = subst T (sym (c .good .1 .0 .1)) tt
 
 returns : tie.Need-returns
-returns c = λ e.
-    let s = c .before in
-    rw (c .at-least .ensures, e) (far-by-limit (s .args .s) (s .args .d) (held-s s) (held-d s))
+returns c = λ e f. rw e (far-by-limit (c .args .s) (c .args .d) f (held-d c))
 
 pub far-off-spec : {M : Type 1} → statement M
-far-off-spec = tie.close (tie.spec (λ c κs. search needs) returns)
+far-off-spec = tie.close (tie.spec returns)

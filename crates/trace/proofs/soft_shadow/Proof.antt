@@ -12,13 +12,13 @@ use Rattle.trace.proofs.soft_shadow.Statement.{statement}
 use Rattle.trace.proofs.soft_shadow.Tie as tie
 
 abbrev Inv-loop : tie.InvT-loop
-Inv-loop tree ws fs ro rd tmin tmax k c₀ steps₀ c steps =
+Inv-loop tree ws fs ro rd tmin tmax k c₀ steps₀ stack₀ keys₀ c steps stack keys =
     (steps ≤ 96)
     × (coneMarch (fieldBy tree ws fs) ro rd tmax k (96 - steps) c steps ≡ shadowOf
     (fieldBy tree ws fs) ro rd tmin tmax k)
 
 abbrev μ-loop : tie.MeasureT-loop
-μ-loop tree ws fs ro rd tmin tmax k c₀ steps₀ c steps = 96 - steps
+μ-loop tree ws fs ro rd tmin tmax k c₀ steps₀ stack₀ keys₀ c steps stack keys = 96 - steps
 
 loop-holds : tie.Need-loop-holds Inv-loop μ-loop
 unfolding shadowOf
@@ -27,14 +27,14 @@ loop-holds c = (omega arith, refl)
 returns : tie.Need-returns Inv-loop μ-loop
 unfolding pass
 returns c =
-    let x = c .before .before .before .before .before in
+    let x = c .before .before .before .before .before .before .before in
     let l = x .before .before .before .loop in
     cone-turn _ _ _ _ _ _ (l .steps) _ (omega arith) (x .if1 .taken) (l .inv .1) Dark (cc)
 
 loop-again : tie.Need-loop-again Inv-loop μ-loop
 unfolding pass
 loop-again c =
-    let x = c .before .before .before .before .before .before in
+    let x = c .before .before .before .before .before .before .before .before in
     let l = x .before .before .before .loop in
     (omega arith, cone-turn _ _ _ _ _ _ (l .steps) _ (omega arith) (x .if1 .taken) (l .inv .1) (Going _) (cc))
 

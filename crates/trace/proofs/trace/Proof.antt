@@ -12,12 +12,12 @@ use Rattle.trace.proofs.trace.Statement.{statement}
 use Rattle.trace.proofs.trace.Tie as tie
 
 abbrev Inv-loop : tie.InvT-loop
-Inv-loop tree ws fs ro rd tmin tmax t₀ steps₀ t steps =
+Inv-loop tree ws fs ro rd tmin tmax t₀ steps₀ stack₀ keys₀ t steps stack keys =
     (steps ≤ 128)
     × (march (fieldBy tree ws fs) ro rd tmax (128 - steps) t steps ≡ traceOf (fieldBy tree ws fs) ro rd tmin tmax)
 
 abbrev μ-loop : tie.MeasureT-loop
-μ-loop tree ws fs ro rd tmin tmax t₀ steps₀ t steps = 128 - steps
+μ-loop tree ws fs ro rd tmin tmax t₀ steps₀ stack₀ keys₀ t steps stack keys = 128 - steps
 
 loop-holds : tie.Need-loop-holds Inv-loop μ-loop
 unfolding traceOf
@@ -26,19 +26,19 @@ loop-holds c = (omega arith, refl)
 returns : tie.Need-returns Inv-loop μ-loop
 unfolding follow
 returns c =
-    let l = c .before .before .before .before .before .before .before .loop in
+    let l = c .before .before .before .before .before .before .before .before .before .loop in
     march-turn _ _ _ _ _ (l .steps) _ (omega arith) (l .inv .1) (Found _) (cc)
 
 returns-2 : tie.Need-returns-2 Inv-loop μ-loop
 unfolding follow
 returns-2 c =
-    let l = c .before .before .before .before .before .before .loop in
+    let l = c .before .before .before .before .before .before .before .before .loop in
     march-turn _ _ _ _ _ (l .steps) _ (omega arith) (l .inv .1) Past (cc)
 
 loop-again : tie.Need-loop-again Inv-loop μ-loop
 unfolding follow
 loop-again c =
-    let l = c .before .before .before .before .before .before .before .loop in
+    let l = c .before .before .before .before .before .before .before .before .before .loop in
     (omega arith, march-turn _ _ _ _ _ (l .steps) _ (omega arith) (l .inv .1) (On _) (cc))
 
 returns-3 : tie.Need-returns-3 Inv-loop μ-loop

@@ -6,7 +6,7 @@ use Rattle.vec.proofs.Vec3.length.Tie as tie
 
 returns : tie.Need-returns
 unfolding vlength
-returns c = rw (c .root .ensures, c .before .dot .ensures)
+returns c = rw (c .quick-root .ensures, c .before .dot .ensures)
 
 pub length-spec : {M : Type 1} → statement M
 length-spec = tie.close (tie.spec
