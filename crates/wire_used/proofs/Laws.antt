@@ -9,7 +9,7 @@ use lib.ListN.{length, set, List·getD-eq-default, length-set}
 use lib.Seq.{getD-set-same, getD-set-other}
 use lib.Ieee.{Float, nan, binary32, ofBits}
 use Rattle.plan.specs.Records.{wordOf, floatOf}
-use Rattle.wire_used.specs.Inside.Used.{Ends, Begins, Used, Seen}
+use Rattle.wire_used.specs.Inside.Used.{Ends, Begins, Seen}
 
 -- no words lie past a table
 pub word-none : (w : List ℕ) (i : ℕ) → length w ≡ 27296 → 27296 ≤ i → wordOf w i ≡ 0
@@ -66,27 +66,4 @@ seen-none w f from l =
       long = l;
       inside = λ k a b. let no : ⊥ = omega (arith, a, b) in absurd no;
       outside = λ k a. refl;
-    }
-
--- ---- what is used is that of a table with the same heads and order
-pub used-as
-    : (w x : List ℕ) (u v m : ℕ) → ((i : ℕ) → i < 5904 → wordOf x i ≡ wordOf w i)
-    → ((i : ℕ) → 22288 ≤ i → wordOf x i ≡ wordOf w i) → Used w u v m → Used x u v m
-used-as w x u v m low high s =
-    record {
-      materials = rw (low 0 (omega arith)) (s .materials);
-      planes = rw (low 1 (omega arith)) (s .planes);
-      lights = rw (low 2 (omega arith)) (s .lights);
-      objects = rw (low 3 (omega arith)) (s .objects);
-      most = s .most;
-      begins = λ j h.
-          let few = s .planes in
-          let k : j < wordOf w 1 = rw (← low 1 (omega arith)) h in
-          rw (low (16 * (65 + j) + 2) (omega (arith, few, k)), low (16 * (65 + j) + 12) (omega (arith, few, k)))
-          (s .begins j k);
-      ends = λ j h.
-          let few = s .most in
-          rw (low (16 * (113 + j) + 2) (omega (arith, few, h)), low (16 * (113 + j) + 12) (omega (arith, few, h)))
-          (s .ends j h);
-      order = λ i h. rw (high (27031 + i) (omega arith)) (s .order i h);
     }

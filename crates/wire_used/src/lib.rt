@@ -1,30 +1,33 @@
-// What a call that asks works on, loaded as far as it is used: cutters' places that no piece has, most of a table, are
-// left 0. Objects take these places from the first one up, planes from the last one down.
+// What a call that asks works on, loaded as far as it is used: rows past a list's count, cutters' places that no piece
+// has, and nodes that no tree of so many objects has are left 0. Objects take the cutters' places from the first up,
+// planes from the last down.
 ghost use mathlib.Core.Path.{_≡_};
 ghost use mathlib.Core.Bool.{true};
-ghost use mathlib.Core.Logic.{_⊎_};
-ghost use Prim.Native.Nat.{ℕ, _+_, _<_, _≤_};
+ghost use mathlib.Core.List.{List};
+ghost use Prim.Native.Nat.{ℕ, _+_, _*_, _-_, _<_, _≤_};
 ghost use lib.ListN.{drop};
 ghost use Rattle.scalar.specs.F32.{f0};
-ghost use Rattle.plan.specs.Sections.{materials, planes, lights, objects};
-ghost use Rattle.plan.specs.Sections.{cutterPlaces, orderFirst, orderPlaces, tableWords};
+ghost use Rattle.words.specs.Words.{wordAt};
+ghost use Rattle.plan.specs.Sections.{planes, objects, cutterPlaces, planWords, nodesFirst, orderFirst, orderPlaces};
+ghost use Rattle.plan.specs.Sections.{tableRows, tableWords};
 ghost use Rattle.plan.specs.Records.{wordOf, floatOf};
 ghost use Rattle.plan.specs.Plan.{seen};
 ghost use Rattle.wire.specs.Lent.{tableOf, askTable};
-ghost use Rattle.wire_used.specs.Inside.Used.{Ends, Begins, Used, Spared, Seen};
+ghost use Rattle.wire_used.specs.Inside.Used.{Ends, Begins, InOrder, Seen, Put, Filled, Early, Listed};
+ghost use Rattle.wire_used.specs.Inside.Used.{Shown, Cuts, Begun, Spared};
 use plan::Floats;
 use plan::Words;
 
-// The words before the cutters', and the cutters' places.
-const HEADS: usize = 5904;
+// The cutters' first row and their places.
+const CUTTERS: usize = 369;
 
 const PLACES: usize = 1024;
 
-// Places from one up to another.
-struct Gap {
-    from: usize,
-    to: usize,
-}
+// The rows of the plan.
+const PLAN_ROWS: usize = 1393;
+
+// The words of two nodes: a tree has less than two for an object.
+const TWO_NODES: usize = 18;
 
 // As a call's result a word is known to fit, so it may be cast.
 fn word_in(ws: &Words, i: usize) -> u32
@@ -62,14 +65,14 @@ fn past(ws: &Words, r: usize, u: usize) -> usize
     u
 }
 
-// Where the cutters of n objects end, and at least u.
-fn ends(ws: &Words, n: u32) -> usize
-    ensures { λ e. ⌜ ((j : ℕ) → j < n → Ends (now (ws .entry)) e (objects .first + j)) ⌝ }
+// Where the cutters of n pieces from a row on end.
+fn ends(ws: &Words, first: u32, n: u32) -> usize
+    ensures { λ e. ⌜ ((j : ℕ) → j < n → Ends (now (ws .entry)) e (first + j)) ⌝ }
 {
     let mut e: usize = 0;
     let mut j: u32 = 0;
     while j < n {
-        e = past(ws, plan::OBJECT_ROW as usize + j as usize, e);
+        e = past(ws, first as usize + j as usize, e);
         j += 1;
     }
     e
@@ -122,10 +125,7 @@ fn last_object(ws: &Words) -> u32
 
 // Whether the counts are a plan's, and the order names none but m objects.
 fn in_order(ws: &Words, m: u32) -> bool
-    ensures { λ b. ⌜ (b ≡ true → (wordOf (now (ws .entry)) (materials .count) ≤ materials .most)
-        × (wordOf (now (ws .entry)) (planes .count) ≤ planes .most)
-        × (wordOf (now (ws .entry)) (lights .count) ≤ lights .most) × (m ≤ objects .most)
-        × ((i : ℕ) → i < orderPlaces → wordOf (now (ws .entry)) (orderFirst + i) < m)) ⌝ }
+    ensures { λ b. ⌜ (b ≡ true → InOrder (now (ws .entry)) m) ⌝ }
 {
     if word_in(ws, plan::COUNT_MATERIALS) <= plan::MATERIALS {
         if word_in(ws, plan::COUNT_PLANES) <= plan::PLANES {
@@ -139,25 +139,6 @@ fn in_order(ws: &Words, m: u32) -> bool
         }
     }
     false
-}
-
-// The cutters' places that are not used, with m objects at most; none, where the table is no plan's.
-fn unused(ws: &Words, m: u32) -> Gap
-    ensures { λ g. ⌜ (g .from ≤ g .to) × (g .to ≤ cutterPlaces)
-        × (wordOf (now (ws .entry)) (objects .count) ≤ m
-        → (g .to ≤ g .from) ⊎ Used (now (ws .entry)) (g .from) (g .to) m) ⌝ }
-{
-    if in_order(ws, m) {
-        let from = ends(ws, m);
-        let to = begins(ws, word_in(ws, plan::COUNT_PLANES));
-        if from < to {
-            return Gap { from, to };
-        }
-    }
-    Gap {
-        from: PLACES,
-        to: PLACES,
-    }
 }
 
 // What a table has from a byte on.
@@ -188,24 +169,125 @@ fn floats(ws: &Words, fs: &mut Floats, from: usize, to: usize)
     }
 }
 
-// The tables in one, with as many of the plan's cutters as are used.
+// What a table has, from one place up to another, as words and as floats.
+fn put(t: &[u8], ws: &mut Words, fs: &mut Floats, from: usize, to: usize)
+    ensures { λ _. ⌜ (from ≤ to → to ≤ tableWords → Put (λ i. wordAt (now (t .entry)) (i - from))
+        (now (ws .entry)) (now (ws .exit)) (now (fs .entry)) (now (fs .exit)) from to) ⌝ }
+{
+    wire::load_part(t, ws, from, to);
+    floats(ws, fs, from, to);
+}
+
+// So many rows of the plan.
+fn rows(plan: &[u8], ws: &mut Words, fs: &mut Floats, first: usize, n: usize)
+    ensures { λ _. ⌜ (first + n ≤ tableRows → Put (wordAt (now (plan .entry)))
+        (now (ws .entry)) (now (ws .exit)) (now (fs .entry)) (now (fs .exit)) (16 * first) (16 * (first + n))) ⌝ }
+{
+    if n <= plan::ROWS {
+        if first <= plan::ROWS - n {
+            put(rest(plan, 64 * first), ws, fs, 16 * first, 16 * (first + n));
+        }
+    }
+}
+
+// The cutters before place u and from place v on.
+fn load_cutters(plan: &[u8], ws: &mut Words, fs: &mut Floats, u: usize, v: usize)
+    ensures { λ _. ⌜ (u ≤ cutterPlaces → v ≤ cutterPlaces → Cuts (wordAt (now (plan .entry)))
+        (now (ws .entry)) (now (ws .exit)) (now (fs .entry)) (now (fs .exit)) u v) ⌝ }
+{
+    if v <= PLACES {
+        if u < v {
+            rows(plan, ws, fs, CUTTERS, u);
+            rows(plan, ws, fs, CUTTERS + v, PLACES - v);
+            return;
+        }
+    }
+    rows(plan, ws, fs, CUTTERS, PLACES);
+}
+
+// As many words of nodes as a tree of m objects may have.
+fn nodes_end(m: u32) -> usize
+    ensures { λ e. ⌜ (e ≤ orderFirst) × (nodesFirst ≤ e)
+        × ((i : ℕ) → i < nodesFirst + 18 * m → i < orderFirst → i < e) ⌝ }
+{
+    let e = plan::NODES + TWO_NODES * m as usize;
+    if e < plan::ORDER { e } else { plan::ORDER }
+}
+
+// The rows of the lists, with m objects.
+fn load_lists(plan: &[u8], ws: &mut Words, fs: &mut Floats, m: u32)
+    ensures { λ _. ⌜ ((t : List ℕ) → ((i : ℕ) → i < planWords → wordAt (now (plan .entry)) i ≡ wordOf t i)
+        → Filled t (now (ws .entry)) (now (fs .entry)) Early → InOrder (now (ws .entry)) m
+        → Filled t (now (ws .exit)) (now (fs .exit)) (Listed t m)) ⌝ }
+{
+    let materials = word_in(ws, plan::COUNT_MATERIALS);
+    let planes = word_in(ws, plan::COUNT_PLANES);
+    let lights = word_in(ws, plan::COUNT_LIGHTS);
+    rows(
+        plan,
+        ws,
+        fs,
+        plan::MATERIAL_ROW as usize,
+        materials as usize,
+    );
+    rows(plan, ws, fs, plan::PLANE_ROW as usize, planes as usize);
+    rows(plan, ws, fs, plan::LIGHT_ROW as usize, 2 * lights as usize);
+    rows(plan, ws, fs, plan::OBJECT_ROW as usize, m as usize);
+}
+
+// Of a table whose counts, arguments and order are loaded and in order, with m objects at most, the rest as far as it
+// is used; `false` where some piece's cutters lie past their places.
+fn load_used(plan: &[u8], nodes: &[u8], ws: &mut Words, fs: &mut Floats, m: u32) -> bool
+    ensures { λ r. ⌜ ((t : List ℕ)
+        → Begun (now (plan .entry)) (now (nodes .entry)) t (now (ws .entry)) (now (fs .entry))
+        → InOrder (now (ws .entry)) m → wordOf (now (ws .entry)) (objects .count) ≤ m
+        → (r ≡ true → Spared t (now (ws .exit))) × Filled t (now (ws .exit)) (now (fs .exit)) Early) ⌝ }
+{
+    load_lists(plan, ws, fs, m);
+    let planes = word_in(ws, plan::COUNT_PLANES);
+    let u = ends(ws, plan::OBJECT_ROW, m);
+    if u <= PLACES {
+        if ends(ws, plan::PLANE_ROW, planes) <= PLACES {
+            put(nodes, ws, fs, plan::NODES, nodes_end(m));
+            load_cutters(plan, ws, fs, u, begins(ws, planes));
+            return true;
+        }
+    }
+    false
+}
+
+// Of such a table all the rest.
+fn load_all(plan: &[u8], nodes: &[u8], ws: &mut Words, fs: &mut Floats)
+    ensures { λ _. ⌜ ((t : List ℕ)
+        → Begun (now (plan .entry)) (now (nodes .entry)) t (now (ws .entry)) (now (fs .entry))
+        → Spared t (now (ws .exit)) × Shown (now (ws .exit)) (now (fs .exit))) ⌝ }
+{
+    rows(plan, ws, fs, 0, PLAN_ROWS);
+    put(nodes, ws, fs, plan::NODES, plan::ORDER);
+}
+
+// The tables in one, as far as they are used; all of them, where they are no plan's.
 fn load(plan: &[u8], args: &[u8], nodes: &[u8], order: &[u8], ws: &mut Words, fs: &mut Floats)
     ensures { λ _. ⌜ (((i : ℕ) → wordOf (now (ws .entry)) i ≡ 0)
         → ((i : ℕ) → i < tableWords → floatOf (now (fs .entry)) i ≡ f0)
         → Spared (tableOf (now (plan .entry)) (now (args .entry)) (now (nodes .entry)) (now (order .entry)))
         (now (ws .exit)) × (now (fs .exit) ≡ seen (now (ws .exit)))) ⌝ }
 {
-    wire::load_part(plan, ws, 0, HEADS);
-    wire::load_part(args, ws, plan::ARGS, plan::NODES);
-    wire::load_part(nodes, ws, plan::NODES, plan::ORDER);
-    wire::load_part(order, ws, plan::ORDER, plan::ORDER + plan::ORDER_WORDS);
-    let g = unused(ws, greater(1, word_in(ws, plan::COUNT_OBJECTS)));
-    let from = HEADS + 16 * g.from;
-    let to = HEADS + 16 * g.to;
-    wire::load_part(rest(plan, 4 * HEADS), ws, HEADS, from);
-    wire::load_part(rest(plan, 4 * to), ws, to, plan::ARGS);
-    floats(ws, fs, 0, from);
-    floats(ws, fs, to, plan::TABLE);
+    // Only as slices do the tables tell the proof their lengths.
+    let _words: &[u32] = ws;
+    let _floats: &[f32] = fs;
+    rows(plan, ws, fs, 0, 1);
+    put(args, ws, fs, plan::ARGS, plan::NODES);
+    put(order, ws, fs, plan::ORDER, plan::ORDER + plan::ORDER_WORDS);
+    let m = greater(1, word_in(ws, plan::COUNT_OBJECTS));
+    if in_order(ws, m) {
+        if load_used(plan, nodes, ws, fs, m) {
+            return;
+        }
+        load_all(plan, nodes, ws, fs);
+        return;
+    }
+    load_all(plan, nodes, ws, fs);
 }
 
 // What a call works on that asks by the tree or by the list: `need` is how many bytes of arguments it reads.

@@ -8,10 +8,10 @@ use Rattle.wire_used.proofs.ends.Statement.{statement}
 use Rattle.wire_used.proofs.ends.Tie as tie
 
 abbrev Inv-loop : tie.InvT-loop
-Inv-loop ws n e₀ j₀ e j = (j ≤ n) × ((k : ℕ) → k < j → Ends ws e (113 + k))
+Inv-loop ws first n e₀ j₀ e j = (j ≤ n) × ((k : ℕ) → k < j → Ends ws e (first + k))
 
 abbrev μ-loop : tie.MeasureT-loop
-μ-loop ws n e₀ j₀ e j = n - j
+μ-loop ws first n e₀ j₀ e j = n - j
 
 loop-holds : tie.Need-loop-holds Inv-loop μ-loop
 loop-holds c = (search needs, λ k p. let no : ⊥ = omega (arith, p) in absurd no)
@@ -22,7 +22,8 @@ loop-again c =
     let a = c .before .before .before .args in
     let p = c .past .ensures in (
       omega arith,
-      one-more (l .j) (λ k h. ends-more (a .ws .now) (l .e) (c .past .result) (113 + k) (p .0) (l .inv .1 k h)) (p .1),
+      one-more (l .j) (λ k h. ends-more (a .ws .now) (l .e) (c .past .result) (a .first + k) (p .0) (l .inv .1 k h))
+          (p .1),
     )
 
 returns : tie.Need-returns Inv-loop μ-loop
@@ -34,5 +35,5 @@ pub ends-spec : {M : Type 1} → statement M
 ends-spec =
     tie.close
     (tie.spec
-    Inv-loop μ-loop loop-holds (λ c. search needs) (λ c. search needs) (λ c. search needs) (λ c κs. search needs)
-    (λ c. search needs) (λ c. search needs) loop-again returns)
+    Inv-loop μ-loop loop-holds (λ c. search needs) (λ c. search needs) (λ c κs. search needs) (λ c. search needs)
+    (λ c. search needs) loop-again returns)

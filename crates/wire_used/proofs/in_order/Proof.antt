@@ -1,6 +1,5 @@
 -- `wire_used::in_order` meets its contract: by its tests. Assumes nothing.
-use Prim.Native.Nat.{ℕ, _<_, _≤_}
-use mathlib.Core.Path.{_≡_, sym, subst}
+use mathlib.Core.Path.{_≡_}
 use mathlib.Core.Bool.{true, false, false≢true}
 use native.Mathlib.Omega.{arith}
 use borrow.Author.Needs.{needs}
@@ -19,13 +18,13 @@ returns c =
     let x = a .before .word-in .ensures in
     let y = b .before .word-in2 .ensures in
     let z = d .before .word-in3 .ensures in
-    λ _. (
-      omega (arith, x, a .if1 .taken),
-      omega (arith, y, b .if2 .taken),
-      omega (arith, z, d .if3 .taken),
-      o .before .if4 .taken,
-      λ i h. let k = o .last-object .ensures i h in omega (arith, k, c .if5 .taken),
-    )
+    λ _. record {
+      materials = omega (arith, x, a .if1 .taken);
+      planes = omega (arith, y, b .if2 .taken);
+      lights = omega (arith, z, d .if3 .taken);
+      objects = o .before .if4 .taken;
+      order = λ i h. let k = o .last-object .ensures i h in omega (arith, k, c .if5 .taken);
+    }
 
 returns-2 : tie.Need-returns-2
 returns-2 c = λ e. never e

@@ -1,46 +1,66 @@
--- `wire_used::load` meets its contract: by what each part of the table holds. Assumes nothing.
+-- `wire_used::load` meets its contract: what is used, or all, after counts, arguments and order. Assumes nothing.
 use native.Mathlib.Omega.{arith}
-use Rattle.wire_used.proofs.Loads.{spared, all-seen}
+use Rattle.wire_used.proofs.Loads.{begun, begun-again, all-seen}
 use borrow.Author.Needs.{needs}
 use Rattle.wire_used.proofs.load.Statement.{statement}
 use Rattle.wire_used.proofs.load.Tie as tie
 
 returns : tie.Need-returns
-returns c =
-    let s1 = c .before .before .before in
-    let p6 = s1 .before .before .before in
-    let r6 = p6 .before .before in
-    let p5 = r6 .before in
-    let r5 = p5 .before .before in
-    let g = r5 .before .before .before in
-    let m = g .before in
-    let n = m .before in
-    let p4 = n .before .before in
-    let p3 = p4 .before .before in
-    let p2 = p3 .before .before in
-    let p1 = p2 .before .before in
-    let s = p1 .before .before .before .before .before .before .args in
-    let most = m .greater .ensures .1 in
+returns c = λ zero none.
+    let x = c .before in
+    let i = x .before .before .before in
+    let o = i .before in
+    let g = o .before .before in
+    let n = g .before in
+    let p3 = n .before .before in
+    let p2 = p3 .before .before .before in
+    let p1 = p2 .before .before .before in
+    let fl = p1 .before .before .before in
+    let most = g .greater .ensures .1 in
     let count = n .word-in .ensures in
-    let q = g .unused .ensures in
-    let long = p1 .before .load-part-arg .given .0 .1 in
-    λ zero none. (
-      spared _ _ _ _ (s .ws .now) _ _ _ _ _ _ _ _ _ _ _ long zero (p1 .load-part .ensures) (p2 .load-part2 .ensures)
-          (p3 .load-part3 .ensures) (p4 .load-part4 .ensures) (q .0) (q .1) (r5 .rest .ensures)
-          (p5 .load-part5 .ensures) (r6 .rest2 .ensures) (p6 .load-part6 .ensures) (q .2 (omega (arith, most, count))),
-      all-seen _ _ _ _ (s .ws .now) _ _ _ _ _ _ _ _ _ _ (m .greater .result) long zero (p1 .load-part .ensures)
-          (p2 .load-part2 .ensures) (p3 .load-part3 .ensures) (p4 .load-part4 .ensures) (q .0) (q .1)
-          (r5 .rest .ensures) (p5 .load-part5 .ensures) (r6 .rest2 .ensures) (p6 .load-part6 .ensures) _ _ _ none
-          (s1 .floats .ensures (omega arith) (omega (arith, q .0, q .1)))
-          (c .floats2 .ensures (omega (arith, q .1)) (omega arith)),
-    )
+    let b = begun _ _ _ _ _ _ _ _ _ _ _ _ (fl .before .before .-words2 .given .0) (fl .-floats2 .given .0) zero none
+    (p1 .rows .ensures (omega arith)) (p2 .put .ensures (omega arith) (omega arith))
+    (p3 .put2 .ensures (omega arith) (omega arith)) in
+    let r = x .load-used .ensures _ b (o .in-order .ensures (i .if1 .taken)) (omega (arith, most, count)) in
+    (r .0 (c .if2 .taken), all-seen _ _ (r .1 .shown))
+
+returns-2 : tie.Need-returns-2
+returns-2 c = λ zero none.
+    let x = c .before .before .before .before in
+    let i = x .before .before .before in
+    let o = i .before in
+    let g = o .before .before in
+    let n = g .before in
+    let p3 = n .before .before in
+    let p2 = p3 .before .before .before in
+    let p1 = p2 .before .before .before in
+    let fl = p1 .before .before .before in
+    let most = g .greater .ensures .1 in
+    let count = n .word-in .ensures in
+    let b = begun _ _ _ _ _ _ _ _ _ _ _ _ (fl .before .before .-words2 .given .0) (fl .-floats2 .given .0) zero none
+    (p1 .rows .ensures (omega arith)) (p2 .put .ensures (omega arith) (omega arith))
+    (p3 .put2 .ensures (omega arith) (omega arith)) in
+    let r = x .load-used .ensures _ b (o .in-order .ensures (i .if1 .taken)) (omega (arith, most, count)) in
+    let a = c .load-all .ensures _ (begun-again _ _ _ _ _ _ _ b (r .1)) in
+    (a .0, all-seen _ _ (a .1))
+
+returns-3 : tie.Need-returns-3
+returns-3 c = λ zero none.
+    let i = c .before .before .before in
+    let p3 = i .before .before .before .before .before .before in
+    let p2 = p3 .before .before .before in
+    let p1 = p2 .before .before .before in
+    let fl = p1 .before .before .before in
+    let b = begun _ _ _ _ _ _ _ _ _ _ _ _ (fl .before .before .-words2 .given .0) (fl .-floats2 .given .0) zero none
+    (p1 .rows .ensures (omega arith)) (p2 .put .ensures (omega arith) (omega arith))
+    (p3 .put2 .ensures (omega arith) (omega arith)) in
+    let a = c .load-all2 .ensures _ b in
+    (a .0, all-seen _ _ (a .1))
 
 pub load-spec : {M : Type 1} → statement M
 load-spec =
     tie.close
     (tie.spec
-    (λ c κs. search needs) (λ c κs. search needs) (λ c κs. search needs) (λ c. search needs)
-    (λ c κs. search needs) (λ c κs. search needs) (λ c κs. search needs) (λ c κs. search needs)
-    (λ c. search needs) (λ c. search needs) (λ c. search needs) (λ c. search needs) (λ c. search needs)
     (λ c κs. search needs) (λ c κs. search needs) (λ c. search needs) (λ c κs. search needs)
-    (λ c κs. search needs) (λ c κs. search needs) (λ c κs. search needs) returns)
+    (λ c κs. search needs) (λ c κs. search needs) (λ c κs. search needs) (λ c κs. search needs) returns
+    (λ c κs. search needs) returns-2 (λ c κs. search needs) returns-3)
