@@ -55,7 +55,7 @@ pub fn left_first(l: f32, r: f32, a: f64, b: f64) -> bool
 
 // A guess at the root of x, the right one 99 times in 100. Its first twelve digits are a line through the bits of x, so
 // that their square is exact; the others are a series. Nothing rests on it but time.
-fn guess(x: f32) -> f32 {
+fn root_guess(x: f32) -> f32 {
     if usual(x) {
         let s = f32::from_bits((f32::to_bits(x) >> 13 << 12) + 0x1fbd_1000);
         let q = s * s;
@@ -89,7 +89,7 @@ fn is_root(x: f32, r: f32) -> bool
 pub fn quick_root(x: f32) -> f32
     ensures { λ r. ⌜ r ≡ rootOf x ⌝ }
 {
-    let r = guess(x);
+    let r = root_guess(x);
     if is_root(x, r) {
         return r;
     }

@@ -14,8 +14,8 @@ ghost use Rattle.sdf_caps.specs.Inside.Caps.{outside, squareAt, cylinder
 ghost use Rattle.sdf_caps.specs.Inside.Caps.{cayOf, coneFrom, Ends, Sides};
 use vec::Vec3;
 
-// A guess that is above zero.
-fn guess(v: f32) -> f32
+// A guess as it is, or as little as it may be where it is not above zero.
+fn above_zero(v: f32) -> f32
     ensures { λ w. ⌜ T (lt f0 w) ⌝ }
 {
     if v > 1e-30 {
@@ -74,7 +74,7 @@ fn cylinder_at(q: f32, y: f32, baba: f32, rb: f32, t: f32) -> f32
 {
     let y2 = y * y * baba;
     let by = beyond(y, y2);
-    let w = guess(t * baba * 1.000001);
+    let w = above_zero(t * baba * 1.000001);
     let z = over(q, rb, w);
     if root_tests::reaches(z * z + by, w) {
         if far(t, w, baba) {
@@ -248,7 +248,7 @@ fn cone_from(
 fn cone_at(g: f32, paba: f32, baba: f32, ra: f32, rb: f32, t: f32) -> f32
     ensures { λ x. ⌜ Near t (coneFrom (rootOf g) paba (cayOf paba) baba ra rb (rb ⊖ ra)) x ⌝ }
 {
-    let w = guess(t);
+    let w = above_zero(t);
     let rba = rb - ra;
     let cay = sdf_near::size(paba - 0.5) - 0.5;
     let e = ends(paba, cay);

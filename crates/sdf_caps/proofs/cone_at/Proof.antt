@@ -16,13 +16,15 @@ returns c =
     rw (sym (a .size .ensures)) (inr (
       refl,
       by-bounds _ _ _ _ _ _ _ _ _ _ _ (e .ends .ensures) (z .sides .ensures refl)
-          (a .before .guess .ensures) (u .sure .ensures (c .if2 .taken)) (i .before .reaches .ensures (i .if1 .taken)),
+          (a .before .above-zero .ensures) (u .sure .ensures (c .if2 .taken))
+          (i .before .reaches .ensures (i .if1 .taken)),
     ))
 
 returns-2 : tie.Need-returns-2
 returns-2 c =
     let a = c .before .before .before .before .before .before in
-    rw (sym (a .size .ensures), sym (c .before .quick-root .ensures)) (c .cone-from .ensures (a .before .guess .ensures))
+    rw (sym (a .size .ensures), sym (c .before .quick-root .ensures))
+    (c .cone-from .ensures (a .before .above-zero .ensures))
 
 pub cone-at-spec : {M : Type 1} → statement M
 cone-at-spec =

@@ -15,7 +15,7 @@ returns c =
     let g = o .before in
     inr (
       refl,
-      by-bound _ _ _ _ _ _ _ _ (g .before .beyond .ensures) (o .over .ensures) (g .guess .ensures)
+      by-bound _ _ _ _ _ _ _ _ (g .before .beyond .ensures) (o .over .ensures) (g .above-zero .ensures)
           (c .before .far .ensures (c .if2 .taken)) (i .before .reaches .ensures (i .if1 .taken)),
     )
 
@@ -28,7 +28,7 @@ returns-2 c =
     let is = square-is _ _ _ _ _ _ _ (s .square .ensures) (r .quick-root .ensures) (g .before .beyond .ensures) in
     inr (
       refl,
-      by-square _ _ _ _ _ _ _ is (g .guess .ensures) (c .before .far2 .ensures (c .if5 .taken))
+      by-square _ _ _ _ _ _ _ is (g .above-zero .ensures) (c .before .far2 .ensures (c .if5 .taken))
           (i .before .reaches2 .ensures (i .if4 .taken)),
     )
 

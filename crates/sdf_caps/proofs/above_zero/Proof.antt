@@ -1,10 +1,10 @@
--- `sdf_caps::guess` meets its contract. Assumes nothing.
+-- `sdf_caps::above_zero` meets its contract. Assumes nothing.
 use lib.Dec.{T}
 use lib.Ieee.{binary32, ofBits, lt}
 use Rattle.scalar.specs.F32.{f0}
 use Rattle.sdf_caps.proofs.Laws.{more-than}
-use Rattle.sdf_caps.proofs.guess.Statement.{statement}
-use Rattle.sdf_caps.proofs.guess.Tie as tie
+use Rattle.sdf_caps.proofs.above_zero.Statement.{statement}
+use Rattle.sdf_caps.proofs.above_zero.Tie as tie
 
 -- 1e-30
 some : T (lt f0 (ofBits binary32 0x0da2_4260))
@@ -17,5 +17,5 @@ returns c = more-than _ (c .before .args .v) some (c .if1 .taken)
 returns-2 : tie.Need-returns-2
 returns-2 c = some
 
-pub guess-spec : {M : Type 1} → statement M
-guess-spec = tie.close (tie.spec returns returns-2)
+pub above-zero-spec : {M : Type 1} → statement M
+above-zero-spec = tie.close (tie.spec returns returns-2)

@@ -1,4 +1,4 @@
--- `root_tests::guess` is safe: the pattern that it makes a float of is no NaN's. Assumes nothing.
+-- `root_tests::root_guess` is safe: the pattern that it makes a float of is no NaN's. Assumes nothing.
 use mathlib.Core.Path.{_≡_, sym, subst, _∙_}
 use mathlib.Core.Bool.{Bool, true}
 use Prim.Native.Nat.{ℕ, _+_, _*_, _/_, _%_, _<_}
@@ -13,8 +13,8 @@ use Rattle.root_tests.specs.Inside.Tests.{usual}
 use Rattle.root_tests.proofs.Squares.{usual-plain, plain-no-nan}
 use native.Mathlib.Omega.{arith}
 use borrow.Author.Needs.{needs}
-use Rattle.root_tests.proofs.guess.Statement.{statement}
-use Rattle.root_tests.proofs.guess.Tie as tie
+use Rattle.root_tests.proofs.root_guess.Statement.{statement}
+use Rattle.root_tests.proofs.root_guess.Tie as tie
 
 -- what has passed the test is plain
 usual-one : (x : Float) → T (fits binary32 x) → (u : Bool) → u ≡ usual x → u ≡ true → T (plain x)
@@ -47,7 +47,7 @@ float-from-bits-s c =
     no-nan-bits (toBits binary32 (s .args .x) / 8192 * 4096 % 4294967296 + 532484096) (small (s .args .x)
     (usual-one (s .args .x) (subst T (sym (s .good .0 .1)) tt) _ (c .before .usual .ensures) (c .if1 .taken)))
 
-pub guess-spec : {M : Type 1} → statement M
-guess-spec =
+pub root-guess-spec : {M : Type 1} → statement M
+root-guess-spec =
     tie.close (tie.spec
     (λ c κs. search needs) float-to-bits-s add-s float-from-bits-s (λ c. search needs) (λ c. search needs))
