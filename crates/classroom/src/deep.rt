@@ -65,9 +65,9 @@ fn last_point(plan: &mut [u8], nodes: &mut [u8], order: &mut [u8]) {
 }
 
 pub fn show() {
-    let mut plan = [0u8; 89152];
-    let mut nodes = [0u8; 18396];
-    let mut order = [0u8; 1024];
+    let mut plan = [0u8; wire_lengths::PLAN_BYTES];
+    let mut nodes = [0u8; wire_lengths::NODES_BYTES];
+    let mut order = [0u8; wire_lengths::ORDER_BYTES];
     points(&mut plan, &mut nodes, &mut order);
     last_point(&mut plan, &mut nodes, &mut order);
 }

@@ -94,9 +94,9 @@ fn after(
 }
 
 fn main() {
-    let mut plan = [0u8; 89152];
-    let mut nodes = [0u8; 18396];
-    let mut order = [0u8; 1024];
+    let mut plan = [0u8; wire_lengths::PLAN_BYTES];
+    let mut nodes = [0u8; wire_lengths::NODES_BYTES];
+    let mut order = [0u8; wire_lengths::ORDER_BYTES];
     let mut desks = [0.0f32; 20];
     let mut places = [0.0f32; 960];
     before(&mut plan, &mut nodes, &mut order, &mut desks, &mut places);

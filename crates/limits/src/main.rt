@@ -199,9 +199,9 @@ fn enter(plan: &mut [u8], nodes: &mut [u8], order: &mut [u8], row: u32, k: u32, 
 
 // Of a tree of five spheres, every word is told.
 fn row(name: &[u8], row: u32, k: u32, n: u32) {
-    let mut plan = [0u8; 89152];
-    let mut nodes = [0u8; 18396];
-    let mut order = [0u8; 1024];
+    let mut plan = [0u8; wire_lengths::PLAN_BYTES];
+    let mut nodes = [0u8; wire_lengths::NODES_BYTES];
+    let mut order = [0u8; wire_lengths::ORDER_BYTES];
     io::write_all(1, name);
     enter(&mut plan, &mut nodes, &mut order, row, k, n);
     let count = build(&plan, &mut nodes, &mut order);
@@ -230,9 +230,9 @@ fn fill_all(plan: &mut [u8], nodes: &mut [u8], order: &mut [u8]) {
 
 // The tables of nodes and order begin with other bytes, which the first entry clears.
 fn full() {
-    let mut plan = [0u8; 89152];
-    let mut nodes = [7u8; 18396];
-    let mut order = [7u8; 1024];
+    let mut plan = [0u8; wire_lengths::PLAN_BYTES];
+    let mut nodes = [7u8; wire_lengths::NODES_BYTES];
+    let mut order = [7u8; wire_lengths::ORDER_BYTES];
     io::write_all(1, b"R4, a plan filled to its limits\n");
     say_distance(&plan, &nodes, &order, 0);
     offer(

@@ -17,8 +17,8 @@ use Rattle.plan.specs.Plan.{seen}
 use Rattle.plan.proofs.Rows.{float-of}
 use Rattle.wire.specs.Lent.{loadedPart, tableOf}
 use Rattle.wire.proofs.Loads.{table-loaded}
-use Rattle.wire_used.specs.Inside.Used.{Seen, Shown, Put, Filled, Ends, Begins, InOrder, Early, Listed, Cuts}
-use Rattle.wire_used.specs.Inside.Used.{Begun, Used, Spared}
+use Rattle.wire_used.specs.Inside.Used.{Seen, Shown, Put, Filled, Ends, Begins, InOrder, Early, Listed}
+use Rattle.wire_used.specs.Inside.Used.{WithCutters, Begun, Used, Spared}
 use Rattle.wire_used.proofs.Parts.{list-ext, part-long, part-before, part-in, part-after, word-drop}
 use Rattle.wire_used.proofs.Laws.{ends-more}
 
@@ -91,7 +91,7 @@ more t w x f g from to filled p agree cover =
 module _ {source : ℕ → ℕ} (w x : List ℕ) (f g : List Float) (u v : ℕ) (low : u ≤ 1024) (most : v ≤ 1024) where
   pub cuts-two
       : (y : List ℕ) (k : List Float) → u < v → Put source w y f k (16 * 369) (16 * (369 + u))
-      → Put source y x k g (16 * (369 + v)) (16 * (369 + v + (1024 - v))) → Cuts source w x f g u v
+      → Put source y x k g (16 * (369 + v)) (16 * (369 + v + (1024 - v))) → WithCutters source w x f g u v
   cuts-two y k h p q =
       record {
         front = λ i a b. q .outside i (inl (omega (arith, b, h))) ∙ p .inside i (omega (arith, a)) (omega (arith, b));
@@ -102,7 +102,7 @@ module _ {source : ℕ → ℕ} (w x : List ℕ) (f g : List Float) (u v : ℕ) 
         shown = λ s. q .shown (p .shown s);
       }
 
-  pub cuts-all : Put source w x f g (16 * 369) (16 * (369 + 1024)) → Cuts source w x f g u v
+  pub cuts-all : Put source w x f g (16 * 369) (16 * (369 + 1024)) → WithCutters source w x f g u v
   cuts-all p =
       record {
         front = λ i a b. p .inside i (omega (arith, a)) (omega (arith, b, low));
@@ -167,7 +167,7 @@ module _ (plan nodes t w w1 w2 x : List ℕ) (f f1 f2 g : List Float) (m e n u v
     (planes-end : (j : ℕ) → j < n → Ends w1 q (65 + j)) (last : q ≤ 1024)
     (e1 : e ≤ 27031) (e2 : (i : ℕ) → i < 22432 + 18 * m → i < 27031 → i < e)
     (p : Put (λ i. wordAt nodes (i - 22432)) w1 w2 f1 f2 22432 e)
-    (begins : (j : ℕ) → j < n → Begins w2 v (65 + j)) (c : Cuts (wordAt plan) w2 x f2 g u v) where
+    (begins : (j : ℕ) → j < n → Begins w2 v (65 + j)) (c : WithCutters (wordAt plan) w2 x f2 g u v) where
   filled : Filled t w2 f2 (λ i. Listed t m i ⊎ ((22432 ≤ i) × (i < e)))
   filled =
       more t w1 w2 f1 f2 22432 e listed p (λ i h k. b .nodes-are i h (omega (arith, k, e1))) (λ i q. q)

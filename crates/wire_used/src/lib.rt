@@ -14,7 +14,7 @@ ghost use Rattle.plan.specs.Records.{wordOf, floatOf};
 ghost use Rattle.plan.specs.Plan.{seen};
 ghost use Rattle.wire.specs.Lent.{tableOf, askTable};
 ghost use Rattle.wire_used.specs.Inside.Used.{Ends, Begins, InOrder, Seen, Put, Filled, Early, Listed};
-ghost use Rattle.wire_used.specs.Inside.Used.{Shown, Cuts, Begun, Spared};
+ghost use Rattle.wire_used.specs.Inside.Used.{Shown, WithCutters, Begun, Spared};
 use plan::Floats;
 use plan::Words;
 
@@ -192,7 +192,7 @@ fn rows(plan: &[u8], ws: &mut Words, fs: &mut Floats, first: usize, n: usize)
 
 // The cutters before place u and from place v on.
 fn load_cutters(plan: &[u8], ws: &mut Words, fs: &mut Floats, u: usize, v: usize)
-    ensures { λ _. ⌜ (u ≤ cutterPlaces → v ≤ cutterPlaces → Cuts (wordAt (now (plan .entry)))
+    ensures { λ _. ⌜ (u ≤ cutterPlaces → v ≤ cutterPlaces → WithCutters (wordAt (now (plan .entry)))
         (now (ws .entry)) (now (ws .exit)) (now (fs .entry)) (now (fs .exit)) u v) ⌝ }
 {
     if v <= PLACES {

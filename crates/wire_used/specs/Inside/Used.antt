@@ -55,8 +55,8 @@ pub record InOrder (w : List ℕ) (m : ℕ) : Type 0 where
   pub order : (i : ℕ) → i < orderPlaces → wordOf w (orderFirst + i) < m
 
 -- the words of x from one place up to another are those of t
-abbrev pub Kept : List ℕ → List ℕ → ℕ → ℕ → Type 0
-Kept t x from to = (i : ℕ) → from ≤ i → i < to → wordOf x i ≡ wordOf t i
+abbrev pub SameWords : List ℕ → List ℕ → ℕ → ℕ → Type 0
+SameWords t x from to = (i : ℕ) → from ≤ i → i < to → wordOf x i ≡ wordOf t i
 
 -- the place of a word among n rows from a row on
 abbrev pub InRows : ℕ → ℕ → ℕ → Type 0
@@ -75,7 +75,7 @@ Listed t m i =
     ⊎ InRows (table.objects .first) m i
 
 -- x is w with the cutters before place u and from place v on
-pub record Cuts (source : ℕ → ℕ) (w x : List ℕ) (f g : List Float) (u v : ℕ) : Type 0 where
+pub record WithCutters (source : ℕ → ℕ) (w x : List ℕ) (f g : List Float) (u v : ℕ) : Type 0 where
   pub front : (i : ℕ) → cutterFirst ≤ i → i < cutterFirst + 16 * u → wordOf x i ≡ source i
   pub back : (i : ℕ) → cutterFirst + 16 * v ≤ i → i < planWords → wordOf x i ≡ source i
   pub outside : (i : ℕ) → (i < cutterFirst) ⊎ (planWords ≤ i) → wordOf x i ≡ wordOf w i
@@ -100,8 +100,8 @@ pub record Used (t x : List ℕ) (m : ℕ) : Type 0 where
   pub begins : (j : ℕ) → j < wordOf t (table.planes .count) → Begins t v (table.planes .first + j)
   pub planes-end : (j : ℕ) → j < wordOf t (table.planes .count) → Ends t cutterPlaces (table.planes .first + j)
   pub lists : (i : ℕ) → Listed t m i → wordOf x i ≡ wordOf t i
-  pub front : Kept t x cutterFirst (cutterFirst + 16 * u)
-  pub back : Kept t x (cutterFirst + 16 * v) planWords
+  pub front : SameWords t x cutterFirst (cutterFirst + 16 * u)
+  pub back : SameWords t x (cutterFirst + 16 * v) planWords
   pub nodes : (i : ℕ) → nodesFirst ≤ i → i < nodesFirst + 18 * m → i < orderFirst → wordOf x i ≡ wordOf t i
 
 -- x has of t what is used, or all
