@@ -266,12 +266,12 @@ fn load_all(plan: &[u8], nodes: &[u8], ws: &mut Words, fs: &mut Floats)
     put(nodes, ws, fs, plan::NODES, plan::ORDER);
 }
 
-// The tables in one, as far as they are used; all of them, where they are no plan's.
-fn load(plan: &[u8], args: &[u8], nodes: &[u8], order: &[u8], ws: &mut Words, fs: &mut Floats)
+// The counts, the arguments and the order, into new tables.
+fn load_early(plan: &[u8], args: &[u8], order: &[u8], ws: &mut Words, fs: &mut Floats)
     ensures { λ _. ⌜ (((i : ℕ) → wordOf (now (ws .entry)) i ≡ 0)
-        → ((i : ℕ) → i < tableWords → floatOf (now (fs .entry)) i ≡ f0)
-        → Spared (tableOf (now (plan .entry)) (now (args .entry)) (now (nodes .entry)) (now (order .entry)))
-        (now (ws .exit)) × (now (fs .exit) ≡ seen (now (ws .exit)))) ⌝ }
+        → ((i : ℕ) → i < tableWords → floatOf (now (fs .entry)) i ≡ f0) → (nodes : List ℕ)
+        → Begun (now (plan .entry)) nodes (tableOf (now (plan .entry)) (now (args .entry)) nodes (now (order .entry)))
+        (now (ws .exit)) (now (fs .exit))) ⌝ }
 {
     // Only as slices do the tables tell the proof their lengths.
     let _words: &[u32] = ws;
@@ -279,6 +279,16 @@ fn load(plan: &[u8], args: &[u8], nodes: &[u8], order: &[u8], ws: &mut Words, fs
     rows(plan, ws, fs, 0, 1);
     put(args, ws, fs, plan::ARGS, plan::NODES);
     put(order, ws, fs, plan::ORDER, plan::ORDER + plan::ORDER_WORDS);
+}
+
+// The tables in one, as far as they are used; all of them, where they are no plan's.
+fn load(plan: &[u8], args: &[u8], nodes: &[u8], order: &[u8], ws: &mut Words, fs: &mut Floats)
+    ensures { λ _. ⌜ (((i : ℕ) → wordOf (now (ws .entry)) i ≡ 0)
+        → ((i : ℕ) → i < tableWords → floatOf (now (fs .entry)) i ≡ f0)
+        → Spared (tableOf (now (plan .entry)) (now (args .entry)) (now (nodes .entry)) (now (order .entry)))
+        (now (ws .exit)) × (now (fs .exit) ≡ seen (now (ws .exit)))) ⌝ }
+{
+    load_early(plan, args, order, ws, fs);
     let m = greater(1, word_in(ws, plan::COUNT_OBJECTS));
     if in_order(ws, m) {
         if load_used(plan, nodes, ws, fs, m) {
