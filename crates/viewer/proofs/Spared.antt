@@ -21,20 +21,34 @@ use Rattle.bvh_search.proofs.Same.{Same, Trimmed}
 use Rattle.wire_used.specs.Inside.Used.{Ends, Begins, Used, Spared}
 use Rattle.wire_used.proofs.Parts.{list-ext}
 
--- parts of lists whose members agree
+-- the part of a table that has so many words from a place on
+part-long : {A : Type 0} (x : List A) (k n : ℕ) → k + n ≤ length x → length (take n (drop k x)) ≡ n
+part-long x k n h = let a = length-drop k x in length-take-le n (drop k x) (omega (arith, h, a))
+
+-- members of such parts, wherever they are
+member
+    : {A : Type 0} (d : A) (x y : List A) (k n i : ℕ) → k + n ≤ length x → k + n ≤ length y
+    → (i < n → getD x (k + i) d ≡ getD y (k + i) d) → getD (take n (drop k x)) i d ≡ getD (take n (drop k y)) i d
+member d x y k n i lx ly h =
+    elim (decLe n i) [
+      | yes a ↦
+          let p = part-long x k n lx in
+          let q = part-long y k n ly in
+          List·getD-eq-default (take n (drop k x)) d {n = i} (omega (arith, a, p))
+          ∙ sym (List·getD-eq-default (take n (drop k y)) d {n = i} (omega (arith, a, q)))
+      | no a ↦
+          let b : i < n = omega (arith, a) in
+          getD-take n (drop k x) i d b ∙ getD-drop k x i d ∙ h b
+          ∙ sym (getD-take n (drop k y) i d b ∙ getD-drop k y i d)
+    ]
+
+-- parts whose members agree
 part-same
     : {A : Type 0} (d : A) (x y : List A) (k n : ℕ) → k + n ≤ length x → k + n ≤ length y
     → ((i : ℕ) → k ≤ i → i < k + n → getD x i d ≡ getD y i d) → take n (drop k x) ≡ take n (drop k y)
 part-same d x y k n lx ly h =
-    let a = length-drop k x in
-    let b = length-drop k y in
-    let p : length (take n (drop k x)) ≡ n = length-take-le n (drop k x) (omega (arith, lx, a)) in
-    let q : length (take n (drop k y)) ≡ n = length-take-le n (drop k y) (omega (arith, ly, b)) in
-    list-ext d (take n (drop k x)) (take n (drop k y)) (p ∙ sym q)
-    (λ i r.
-    let j : i < n = omega (arith, r, p) in
-    getD-take n (drop k x) i d j ∙ getD-drop k x i d ∙ h (k + i) (omega arith) (omega (arith, j))
-    ∙ sym (getD-take n (drop k y) i d j ∙ getD-drop k y i d))
+    list-ext d (take n (drop k x)) (take n (drop k y)) (part-long x k n lx ∙ sym (part-long y k n ly))
+    (λ i _. member d x y k n i lx ly (λ b. h (k + i) (omega arith) (omega (arith, b))))
 
 -- ---- the plan of a table, by the rows that are kept
 module _ (t w : List ℕ) (counts : (i : ℕ) → i < 4 → wordOf t i ≡ wordOf w i)
@@ -78,27 +92,6 @@ piece-kept t w r h c =
     ap (pieceAt w (seen w)) (sym z) ∙ sym (getD-from (pieceAt w (seen w)) r 1 0 none (omega arith))
     ∙ ap (λ (l : List Piece). getD l 0 none) (sym e) ∙ getD-from (pieceAt t (seen t)) r 1 0 none (omega arith)
     ∙ ap (pieceAt t (seen t)) z
-
--- the part of a table that has so many words from a place on
-part-long : {A : Type 0} (x : List A) (k n : ℕ) → k + n ≤ length x → length (take n (drop k x)) ≡ n
-part-long x k n h = let a = length-drop k x in length-take-le n (drop k x) (omega (arith, h, a))
-
--- members of such parts, wherever they are
-member
-    : {A : Type 0} (d : A) (x y : List A) (k n i : ℕ) → k + n ≤ length x → k + n ≤ length y
-    → (i < n → getD x (k + i) d ≡ getD y (k + i) d) → getD (take n (drop k x)) i d ≡ getD (take n (drop k y)) i d
-member d x y k n i lx ly h =
-    elim (decLe n i) [
-      | yes a ↦
-          let p = part-long x k n lx in
-          let q = part-long y k n ly in
-          List·getD-eq-default (take n (drop k x)) d {n = i} (omega (arith, a, p))
-          ∙ sym (List·getD-eq-default (take n (drop k y)) d {n = i} (omega (arith, a, q)))
-      | no a ↦
-          let b : i < n = omega (arith, a) in
-          getD-take n (drop k x) i d b ∙ getD-drop k x i d ∙ h b
-          ∙ sym (getD-take n (drop k y) i d b ∙ getD-drop k y i d)
-    ]
 
 seen-long : (x : List ℕ) → length (seen x) ≡ 27296
 seen-long x = length-from (floatAt x) 0 27296

@@ -167,7 +167,7 @@ module _ (plan nodes t w w1 w2 x : List ℕ) (f f1 f2 g : List Float) (m e n u v
     (planes-end : (j : ℕ) → j < n → Ends w1 q (65 + j)) (last : q ≤ 1024)
     (e1 : e ≤ 27031) (e2 : (i : ℕ) → i < 22432 + 18 * m → i < 27031 → i < e)
     (p : Put (λ i. wordAt nodes (i - 22432)) w1 w2 f1 f2 22432 e)
-    (begins : (j : ℕ) → j < n → Begins w2 v (65 + j)) (c : WithCutters (wordAt plan) w2 x f2 g u v) where
+    (begins : (j : ℕ) → j < n → Begins w1 v (65 + j)) (c : WithCutters (wordAt plan) w2 x f2 g u v) where
   filled : Filled t w2 f2 (λ i. Listed t m i ⊎ ((22432 ≤ i) × (i < e)))
   filled =
       more t w1 w2 f1 f2 22432 e listed p (λ i h k. b .nodes-are i h (omega (arith, k, e1))) (λ i q. q)
@@ -183,14 +183,10 @@ module _ (plan nodes t w w1 w2 x : List ℕ) (f f1 f2 g : List Float) (m e n u v
   n-is : n ≡ wordOf t 1
   n-is = a1 ∙ listed .same 1 (inl (inl (inl (inl (inl (inl (omega arith)))))))
 
-  -- the head of a piece, while and after the nodes are loaded
+  -- the head of a piece
   plane-word : (j k : ℕ) → j < n → k < 16 → wordOf w1 (16 * (65 + j) + k) ≡ wordOf t (16 * (65 + j) + k)
   plane-word j k h l =
       listed .same (16 * (65 + j) + k) (inl (inl (inr (omega arith, omega (arith, h, l, n-is)))))
-
-  plane-word′ : (j k : ℕ) → j < n → k < 16 → wordOf w2 (16 * (65 + j) + k) ≡ wordOf t (16 * (65 + j) + k)
-  plane-word′ j k h l =
-      filled .same (16 * (65 + j) + k) (inl (inl (inl (inr (omega arith, omega (arith, h, l, n-is))))))
 
   object-word : (j k : ℕ) → j < m → k < 16 → wordOf w1 (16 * (113 + j) + k) ≡ wordOf t (16 * (113 + j) + k)
   object-word j k h l = listed .same (16 * (113 + j) + k) (inr (omega arith, omega (arith, h, l)))
@@ -226,7 +222,7 @@ module _ (plan nodes t w w1 w2 x : List ℕ) (f f1 f2 g : List Float) (m e n u v
         ends = λ j h. rw (← (object-word j 2 h (omega arith)), ← (object-word j 12 h (omega arith))) (ends j h);
         begins = λ j h.
             let k : j < n = omega (arith, h, n-is) in
-            rw (← (plane-word′ j 2 k (omega arith)), ← (plane-word′ j 12 k (omega arith))) (begins j k);
+            rw (← (plane-word j 2 k (omega arith)), ← (plane-word j 12 k (omega arith))) (begins j k);
         planes-end = λ j h.
             let k : j < n = omega (arith, h, n-is) in
             rw (← (plane-word j 2 k (omega arith)), ← (plane-word j 12 k (omega arith)))

@@ -248,8 +248,9 @@ fn load_used(plan: &[u8], nodes: &[u8], ws: &mut Words, fs: &mut Floats, m: u32)
     let u = ends(ws, plan::OBJECT_ROW, m);
     if u <= PLACES {
         if ends(ws, plan::PLANE_ROW, planes) <= PLACES {
+            let v = begins(ws, planes);
             put(nodes, ws, fs, plan::NODES, nodes_end(m));
-            load_cutters(plan, ws, fs, u, begins(ws, planes));
+            load_cutters(plan, ws, fs, u, v);
             return true;
         }
     }

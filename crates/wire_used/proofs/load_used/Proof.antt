@@ -8,10 +8,10 @@ use Rattle.wire_used.proofs.load_used.Tie as tie
 
 returns : tie.Need-returns
 returns c =
-    let v = c .before in
-    let p = v .before .before .before .before in
+    let p = c .before .before .before in
     let e = p .before in
-    let i2 = e .before .before .before in
+    let v = e .before .before .before in
+    let i2 = v .before .before in
     let q = i2 .before in
     let i1 = q .before .before in
     let u = i1 .before in
