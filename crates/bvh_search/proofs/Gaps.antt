@@ -1,4 +1,5 @@
--- The greatest of a, b and 0 is the greater of what each has above 0: by the cases of both. Assumes nothing.
+-- The greatest of a, b and 0 is a where it is greater than what b has above 0, and else that: by the cases of both.
+-- Assumes nothing.
 use mathlib.Core.Path.{_≡_, refl, sym, subst}
 use mathlib.Core.Bool.{Bool, true, false, cond}
 use lib.Dec.{T}
@@ -36,12 +37,8 @@ module _ (a b : Float) where
           absurd (not-of k (lt-le-trans f0 a b (yes-of e)
           (le-of-not-lt a b (lt-right f0 a (yes-of e)) n (not-of p))))
 
-  second : lt f0 a ≡ false → lt f0 b ≡ true → fmax a b ≡ b
-  unfolding fmax
-  second e k =
-      let p : lt b a ≡ false = is-not (λ l. not-of e (lt-trans f0 b a (yes-of k) l)) in
-      let q : eq b b ≡ true = is-yes (subst T (sym (number-eq b)) (lt-right f0 b (yes-of k))) in
-      rw (p, q)
+  second : lt f0 a ≡ false → lt f0 b ≡ true → lt b a ≡ false
+  second e k = is-not (λ l. not-of e (lt-trans f0 b a (yes-of k) l))
 
   both : lt f0 b ≡ true → fmax a b ≡ cond (lt b a) a b
   unfolding fmax
@@ -56,18 +53,11 @@ module _ (a b : Float) where
   of-two true e k = e
   of-two false e k = k
 
-  pub gap-is : cond (lt (fmax b f0) (fmax a f0)) (fmax a f0) (fmax b f0) ≡ fmax (fmax a b) f0
+  pub gap-is : cond (lt (fmax b f0) a) a (fmax b f0) ≡ fmax (fmax a b) f0
   gap-is = go (lt f0 a) (lt f0 b) refl refl
     where
-      go
-          : (x y : Bool) → lt f0 a ≡ x → lt f0 b ≡ y
-          → cond (lt (fmax b f0) (fmax a f0)) (fmax a f0) (fmax b f0) ≡ fmax (fmax a b) f0
-      go true true e k =
-          rw (over-zero a e, over-zero b k, both k, over-zero (cond (lt b a) a b) (of-two (lt b a) e k))
+      go : (x y : Bool) → lt f0 a ≡ x → lt f0 b ≡ y → cond (lt (fmax b f0) a) a (fmax b f0) ≡ fmax (fmax a b) f0
+      go true true e k = rw (over-zero b k, both k, over-zero (cond (lt b a) a b) (of-two (lt b a) e k))
       go true false e k = rw (not-over b k, first e k, over-zero a e, e)
-      go false true e k =
-          let l : lt b f0 ≡ false = is-not (λ l. lt-irrefl f0 (lt-trans f0 b f0 (yes-of k) l)) in
-          rw (not-over a e, second e k, over-zero b k, l)
-      go false false e k =
-          let l : lt f0 f0 ≡ false = is-not (lt-irrefl f0) in
-          rw (not-over (fmax a b) (neither e k), not-over a e, not-over b k, l)
+      go false true e k = rw (over-zero b k, both k, second e k, over-zero b k)
+      go false false e k = rw (not-over (fmax a b) (neither e k), not-over b k, e)

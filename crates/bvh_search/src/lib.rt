@@ -73,13 +73,12 @@ pub struct State {
     pub done: u32,
 }
 
-// The greatest of a, b and 0: three selects, of which two with 0 are one instruction each.
+// The greatest of a, b and 0 by two selects, of which that with 0 is one instruction.
 fn gap(a: f32, b: f32) -> f32
     ensures { λ r. ⌜ r ≡ fmax (fmax a b) f0 ⌝ }
 {
-    let u = scalar::max(a, 0.0);
     let v = scalar::max(b, 0.0);
-    if u > v { u } else { v }
+    if a > v { a } else { v }
 }
 
 // The square of the distance from p to a box.

@@ -53,16 +53,15 @@ pub fn left_first(l: f32, r: f32, a: f64, b: f64) -> bool
     root::root(l) < root::root(r)
 }
 
-// A guess at the root of x, the right one 99 times in 100. Its first twelve digits are a line through the bits of x, so
-// that their square is exact; the others are a series. Nothing rests on it but time.
+// A guess at the root of x, the right one 98 times in 100. Its first twelve digits s are a line through the bits of x,
+// so that their square q is exact; the others are s (x - q) by a quotient of squares, which takes one division. Nothing
+// rests on it but time.
 fn root_guess(x: f32) -> f32 {
     if usual(x) {
         let s = f32::from_bits((f32::to_bits(x) >> 13 << 12) + 0x1fbd_1000);
         let q = s * s;
-        let d = (x - q) / q;
-        let e = d * d;
-        let high = 0.0625 - d * 0.0390625 + e * (0.02734375 - d * 0.0205078125);
-        return s + s * d * (0.5 - d * 0.125 + e * high);
+        let n = s * (x - q) * ((x + q) * 4.0);
+        return s + n / (q * 5.0 * q + (x * 10.0 * q + x * x));
     }
     0.0
 }

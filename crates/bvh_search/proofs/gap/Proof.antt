@@ -7,16 +7,13 @@ use Rattle.bvh_search.proofs.gap.Tie as tie
 
 returns : tie.Need-returns
 returns c = let v = c .before in
-    let u = v .before in
-    let a = u .before .args in
-    rw (sym (gap-is (a .a) (a .b)), sym (u .max .ensures), sym (v .max2 .ensures), c .if1 .taken)
+    let a = v .before .args in
+    rw (sym (gap-is (a .a) (a .b)), sym (v .max .ensures), c .if1 .taken)
 
 returns-2 : tie.Need-returns-2
 returns-2 c = let v = c .before in
-    let u = v .before in
-    let a = u .before .args in
-    rw (sym (gap-is (a .a) (a .b)), sym (u .max .ensures), sym (v .max2 .ensures), c .if1 .left)
+    let a = v .before .args in
+    rw (sym (gap-is (a .a) (a .b)), sym (v .max .ensures), c .if1 .left)
 
 pub gap-spec : {M : Type 1} → statement M
-gap-spec = tie.close (tie.spec
-    (λ c κs. search needs) (λ c κs. search needs) returns returns-2)
+gap-spec = tie.close (tie.spec (λ c κs. search needs) returns returns-2)
