@@ -51,7 +51,7 @@ fn size_in(s: Sub) -> usize
 {
     match s {
         Sub::Bad => 0,
-        Sub::Good(next, _end) => next,
+        Sub::Good(next, _end) => next as usize,
     }
 }
 

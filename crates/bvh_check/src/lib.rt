@@ -80,14 +80,14 @@ fn hull_ok(b: Aabb, outer: Aabb, at: usize) -> bool
     )
 }
 
-fn kind_of(ws: &Words, fs: &Floats, v: Node, outer: Aabb, at: usize, start: usize) -> Kind
+fn kind_of(ws: &Words, fs: &Floats, v: Node, outer: Aabb, at: u32, start: usize) -> Kind
     ensures { λ r. ⌜ r ≡ kindOf (orderOf (now (ws .entry)))
         (boxesOf (planOf (now (ws .entry)) (now (fs .entry)))) v outer at start ⌝ }
 {
-    if hull_ok(v.hull, outer, at) {
+    if hull_ok(v.hull, outer, at as usize) {
         if v.count == 0 {
             if v.start == 0 {
-                return Kind::Inner(at + 1, v.right as usize);
+                return Kind::Inner(at + 1, v.right);
             }
             return Kind::Wrong;
         }
@@ -101,14 +101,14 @@ fn kind_of(ws: &Words, fs: &Floats, v: Node, outer: Aabb, at: usize, start: usiz
 
 // The subtree at a place, whose first leaf must start at `start` and whose box lies within outer, with so many levels
 // left.
-fn check_sub(ws: &Words, fs: &Floats, outer: Aabb, at: usize, start: usize, level: usize) -> Sub
+fn check_sub(ws: &Words, fs: &Floats, outer: Aabb, at: u32, start: usize, level: usize) -> Sub
     ensures { λ r. ⌜ r ≡ checkOf level (nodesOf (now (ws .entry))) (nodesOf (now (fs .entry)))
         (orderOf (now (ws .entry))) (boxesOf (planOf (now (ws .entry)) (now (fs .entry)))) outer at start ⌝ }
 {
     if level == 0 {
         return Sub::Bad;
     }
-    let v = bvh_rules::node_at(ws, fs, at);
+    let v = bvh_rules::node_at(ws, fs, at as usize);
     let k = kind_of(ws, fs, v, outer, at, start);
     match k {
         Kind::Wrong => Sub::Bad,

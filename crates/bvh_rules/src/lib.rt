@@ -31,14 +31,14 @@ pub struct Node {
 // What a node is: a leaf with the next place and its end, or an interior node with the places of its children.
 pub enum Kind {
     Wrong,
-    Leaf(usize, usize),
-    Inner(usize, usize),
+    Leaf(u32, usize),
+    Inner(u32, u32),
 }
 
 // A subtree: the first place after it, and where its last leaf ends.
 pub enum Sub {
     Bad,
-    Good(usize, usize),
+    Good(u32, usize),
 }
 
 // The node at a place; past the last place what no words make.

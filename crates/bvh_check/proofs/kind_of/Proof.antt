@@ -7,8 +7,8 @@ use borrow.Author.Needs.{needs}
 use Rattle.bvh_check.proofs.kind_of.Statement.{statement}
 use Rattle.bvh_check.proofs.kind_of.Tie as tie
 
-add-t10 : tie.Need-add-t10
-add-t10 c =
+add-t11 : tie.Need-add-t11
+add-t11 c =
     omega (
       arith,
       hull-at _ _ _ (sym (c .before .before .before .before .before .hull-ok .ensures)
@@ -18,9 +18,9 @@ add-t10 c =
 returns : tie.Need-returns
 returns c =
     kind-inner _ _ _ _ _ _
-    (sym (c .before .before .before .before .before .before .hull-ok .ensures)
-    ∙ c .before .before .before .before .before .if1 .taken)
-    (c .before .before .before .if2 .taken) (c .before .if3 .taken)
+    (sym (c .before .before .before .before .before .hull-ok .ensures)
+    ∙ c .before .before .before .before .if1 .taken)
+    (c .before .before .if2 .taken) (c .if3 .taken)
 
 returns-2 : tie.Need-returns-2
 returns-2 c =
@@ -66,5 +66,5 @@ pub kind-of-spec : {M : Type 1} → statement M
 kind-of-spec =
     tie.close
     (tie.spec
-    (λ c κs. search needs) add-t10 (λ c. search needs) returns returns-2 (λ c κs. search needs) add-t13
+    (λ c κs. search needs) add-t11 returns returns-2 (λ c κs. search needs) add-t13
     (λ c. search needs) add-t15 returns-3 returns-4 returns-5)
