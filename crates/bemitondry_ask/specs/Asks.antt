@@ -1,5 +1,4 @@
--- What a query and a distance reply on a loaded table. before is a number that applies already, w and f are a call's
--- table as words and as floats. Definitions only.
+-- What a query and a distance reply on a loaded table; before, w and f are as in ask_test, specs/Numbers.
 use Prim.Native.Nat.{ℕ}
 use mathlib.Core.List.{List}
 use lib.Ieee.{Float}
@@ -13,14 +12,10 @@ use Rattle.ask_test.specs.Numbers.{argVec, argFloat, treeNumber, queryNumber, s
 use Rattle.reply.specs.declared.Reply.{Reply}
 use Rattle.reply.specs.Reply.{bits, doneReply, replyOf}
 
--- ---- answers
--- distance, material, nodes popped, objects evaluated
-unfoldable pub foundReply : DistHit → ℕ → ℕ → Reply
+unfoldable pub foundReply : DistHit → ℕ → ℕ → Reply  -- distance, material, nodes popped, objects evaluated
 foundReply h popped evaluated = doneReply (bits (h .d)) (h .mat) popped evaluated 0 0 0 0
 
--- ---- by the tree where `tree` is 1, by the plain list where it is 0
--- "`viewer_query` goes over the objects alone, from the bound given"
-abbrev pub queryBound : List ℕ → List Float → DistHit
+abbrev pub queryBound : List ℕ → List Float → DistHit  -- "over the objects alone, from the bound given"
 queryBound w f = record { d = argFloat f 3; mat = argWord w 4 }
 
 abbrev pub searchedReply : Searched → Reply
@@ -31,8 +26,7 @@ queryReply before tree w f =
     replyOf (lower (queryNumber before w f) (treeNumber tree w f))
     (searchedReply (hitBy tree w f (argVec f 0) (queryBound w f)))
 
--- the source's `dist_mat`: planes, then objects
-unfoldable pub distMatReply : ℕ → ℕ → List ℕ → List Float → Reply
+unfoldable pub distMatReply : ℕ → ℕ → List ℕ → List Float → Reply  -- the source's `dist_mat`: planes, then objects
 distMatReply before tree w f =
     replyOf (lower (solidsAsk before (within (argVec f 0) farthest) w f) (treeNumber tree w f))
     (foundReply (fieldBy tree w f (argVec f 0)) 0 0)

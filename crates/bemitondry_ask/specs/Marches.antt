@@ -1,4 +1,4 @@
--- What marches reply on a loaded table: a ray's, and a shadow's. "`k` 0 to 1,000." Definitions only.
+-- What marches reply on a loaded table: a ray's, and a shadow's. "`k` 0 to 1,000."
 use Prim.Native.Nat.{ℕ}
 use mathlib.Core.Bool.{_&&_}
 use mathlib.Core.List.{List}
@@ -26,8 +26,7 @@ traceReply before tree w f =
     replyOf (lower (solidsAsk before (rayGiven f) w f) (treeNumber tree w f))
     (tracedReply (traceOf (fieldBy tree w f) (argVec f 0) (argVec f 3) (argFloat f 6) (argFloat f 7)))
 
--- "visibility, count"
-abbrev pub seenReply : Shadow → Reply
+abbrev pub seenReply : Shadow → Reply  -- "visibility, count"
 seenReply s = doneReply (bits (s .vis)) (s .count) 0 0 0 0 0 0
 
 unfoldable pub shadowReply : ℕ → ℕ → List ℕ → List Float → Reply

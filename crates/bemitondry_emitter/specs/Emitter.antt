@@ -1,6 +1,6 @@
 -- "`lights` of `viewer_emitter_hit` is a slice of light records of fifteen words each (corners, emission). More than
 -- 16, or a length that is no whole number of records, gets 2 and no record is judged; else each is tested as on entry
--- (1, 4)." Definitions only.
+-- (1, 4)."
 use Prim.Native.Nat.{ℕ, _+_, _*_, _/_, _%_}
 use mathlib.Core.Bool.{Bool, cond, _&&_}
 use mathlib.Core.List.{List}
@@ -20,15 +20,13 @@ use Rattle.reply.specs.declared.Reply.{Reply}
 use Rattle.reply.specs.Reply.{bits, doneReply, replyOf}
 use Rattle.wire.specs.Lent.{givenVec}
 
--- sixty bytes a record, at most sixteen
-unfoldable pub recordsOk : ℕ → Bool
+unfoldable pub recordsOk : ℕ → Bool  -- sixty bytes a record, at most sixteen
 recordsOk bytes = eqb (bytes % 60) 0 && leb bytes 960
 
 unfoldable pub recordsIn : ℕ → ℕ
 recordsIn bytes = cond (recordsOk bytes) (bytes / 60) 0
 
--- record i of the bytes b
-unfoldable pub lentLight : List ℕ → ℕ → QuadLight
+unfoldable pub lentLight : List ℕ → ℕ → QuadLight  -- record i of the bytes b
 lentLight b i =
     record {
       v0 = givenVec b (15 * i + 0);
@@ -50,8 +48,7 @@ emitterNumber before b ro rd tmax =
     (lower (lower (unless noRoom (recordsOk (length b))) (unless badNumber (aimOk ro rd tmax)))
     (lowestOf lightNumber (lentLights b)))
 
--- "hit (1 or 0), t, emission x y z"
-unfoldable pub emittedReply : Emitted → Reply
+unfoldable pub emittedReply : Emitted → Reply  -- "hit (1 or 0), t, emission x y z"
 emittedReply Nothing = doneReply 0 0 0 0 0 0 0 0
 emittedReply (Shows t emit) = doneReply 1 (bits t) (bits (emit .x)) (bits (emit .y)) (bits (emit .z)) 0 0 0
 

@@ -6,10 +6,10 @@ use mathlib.Core.List.{List}
 use lib.Dec.{eqb}
 use Rattle.plan_entry.specs.declared.Added.{Added}
 use Rattle.plan_entry.specs.declared.Added.the-variants.{Refused, Done}
-use Rattle.plan_entry.specs.Entry.{addedOf, Enters}
+use Rattle.plan_entry.specs.Inside.Adds.{addedOf, Enters}
 use Rattle.reply.specs.declared.Reply.{Reply}
 use Rattle.reply.specs.Reply.{refusedReply, oneWord, replyOf}
-use Rattle.bemitondry_entry.specs.Entries.{addedReply, EntersTable}
+use Rattle.bemitondry_entry.specs.Inside.Enters.{addedReply, EntersTable}
 
 added-as : (number index : ℕ) → addedReply (addedOf number index) ≡ replyOf number (oneWord index)
 unfolding addedReply addedOf replyOf

@@ -1,7 +1,7 @@
 // The public calls that enter a record or a piece into a loaded table. `before` is a number that applies already; `ws`
 // and `fs` are a call's table.
 ghost use mathlib.Core.Path.{_≡_};
-ghost use Rattle.bemitondry_entry.specs.Entries.{addedReply, MaterialEnters, LightEnters, PieceEnters};
+ghost use Rattle.bemitondry_entry.specs.Inside.Enters.{addedReply, MaterialEnters, LightEnters, PieceEnters};
 use plan::Floats;
 use plan::Words;
 use plan_entry::Added;

@@ -1,5 +1,5 @@
--- What direct light replies on a loaded table. "Shading points to 10,000; shading normals and views to 1.5 a
--- component; albedo, roughness, metallic 0 to 1." Definitions only.
+-- What direct light replies on a loaded table. "Shading points to 10,000; shading normals and views to 1.5 a component;
+-- albedo, roughness, metallic 0 to 1."
 use Prim.Native.Nat.{ℕ}
 use mathlib.Core.Bool.{Bool, _&&_}
 use mathlib.Core.List.{List}
@@ -26,8 +26,7 @@ use Rattle.reply.specs.Reply.{bits, doneReply, replyOf}
 unfoldable pub siteOk : Vec3 → Vec3 → Bool
 siteOk p n = within p far && within n steep
 
--- the plan's lights: of a plan that passes, all of them
-abbrev pub panels : List ℕ → List Float → List QuadLight
+abbrev pub panels : List ℕ → List Float → List QuadLight  -- the plan's lights: of a plan that passes, all of them
 panels w f = take (lights .most) (planOf w f .lights)
 
 -- 8 before 9; given is what the arguments get, p the shading point
@@ -36,12 +35,10 @@ litAsk before given tree p w f =
     lower (lower (lower before (lower given (litNumber (planOf w f)))) (treeNumber tree w f))
     (panelsNumber p (panels w f))
 
--- "x y z, count"
-unfoldable pub litReply : Lit → Reply
+unfoldable pub litReply : Lit → Reply  -- "x y z, count"
 litReply l = doneReply (bits (l .light .x)) (bits (l .light .y)) (bits (l .light .z)) (l .count) 0 0 0 0
 
--- ---- "point, normal, view, albedo, roughness, metallic"
-abbrev pub argMaterial : List Float → Material
+abbrev pub argMaterial : List Float → Material  -- "point, normal, view, albedo, roughness, metallic"
 argMaterial f = record { albedo = argVec f 9; roughness = argFloat f 12; metallic = argFloat f 13 }
 
 abbrev pub directGiven : List Float → ℕ
@@ -55,8 +52,7 @@ directReply before tree w f =
     (litReply
     (directOf (fieldBy tree w f) (panels w f) (argVec f 0) (argVec f 3) (argVec f 6) (argMaterial f)))
 
--- ---- "point, normal, albedo"
-abbrev pub diffuseGiven : List Float → ℕ
+abbrev pub diffuseGiven : List Float → ℕ  -- "point, normal, albedo"
 diffuseGiven f = unless badNumber (siteOk (argVec f 0) (argVec f 3) && withinUpTo (argVec f 6) f1)
 
 unfoldable pub directDiffuseReply : ℕ → ℕ → List ℕ → List Float → Reply

@@ -27,14 +27,16 @@ use Rattle.bvh_rules.proofs.Lists.{nodes-length}
 use Rattle.bvh_rules.proofs.Trees.{stands-fit}
 use Rattle.bvh_rules.proofs.Exact.{tree-told}
 use Rattle.bvh_build.specs.declared.Built.{Built}
-use Rattle.bvh_build.specs.Encode.{low32}
+use Rattle.bvh_build.specs.Inside.Narrow.{low32}
 use Rattle.bvh_build.specs.Tables.{sizeOf, lowEnough, nodesWith, orderWith}
 use Rattle.bvh_build.specs.Inside.Lays.{Builds}
 use Rattle.bvh_build.proofs.Meets.{built-size}
 use Rattle.reply.specs.declared.Reply.{Reply}
 use Rattle.reply.specs.Reply.{refusedReply, oneWord, replyOf}
-use Rattle.bemitondry_tree.specs.Trees.{noNodes, noOrder, buildNumber, BuildLeaves, judgedTree, offeredTree}
-use Rattle.bemitondry_tree.specs.Trees.{offerNumber, sizeIn, frontWord, OfferLeaves}
+use Rattle.bemitondry_tree.specs.Trees.{noNodes, noOrder, buildNumber, judgedTree, offeredTree}
+use Rattle.bemitondry_tree.specs.Inside.Leaves.{BuildLeaves}
+use Rattle.bemitondry_tree.specs.Trees.{offerNumber, sizeIn, frontWord}
+use Rattle.bemitondry_tree.specs.Inside.Leaves.{OfferLeaves}
 
 few-objects : (p : Plan) → objectsNumber p ≡ 0 → length (p .objects) ≤ 256
 few-objects p e = objects-exact p .0 e .counts .objects

@@ -1,4 +1,4 @@
--- What each public call on single values replies. before is a number that applies already. Definitions only.
+-- What each public call on single values replies. before is a number that applies already.
 use Prim.Native.Nat.{ℕ}
 use lib.Ieee.{Float}
 use Rattle.root.specs.Root.{rootOf}
@@ -18,7 +18,6 @@ use Rattle.refusals.specs.Prims.{primNumber}
 use Rattle.reply.specs.declared.Reply.{Reply}
 use Rattle.reply.specs.Reply.{bits, refusedReply, doneReply, oneWord, replyOf}
 
--- ---- answers
 unfoldable pub floatReply : ℕ → Float → Reply
 floatReply n x = replyOf n (oneWord (bits x))
 
@@ -27,20 +26,17 @@ boxWords b =
     doneReply (bits (b .lo .x)) (bits (b .lo .y)) (bits (b .lo .z))
     (bits (b .hi .x)) (bits (b .hi .y)) (bits (b .hi .z)) 0 0
 
--- a plane has no box, and gets 5
-unfoldable pub boxReply : ℕ → Bounds → Reply
+unfoldable pub boxReply : ℕ → Bounds → Reply  -- a plane has no box, and gets 5
 boxReply n (Within b) = replyOf n (boxWords b)
 boxReply n Unbounded = refusedReply (lower n wrongList)
 
--- ---- "Root takes 0 to `f32::MAX`, arc cosine -1 to 1"
-unfoldable pub rootReply : ℕ → Float → Reply
+unfoldable pub rootReply : ℕ → Float → Reply  -- "Root takes 0 to `f32::MAX`"
 rootReply before x = floatReply (lower before (unless badNumber (upTo x greatest))) (rootOf x)
 
-unfoldable pub acosReply : ℕ → Float → Reply
+unfoldable pub acosReply : ℕ → Float → Reply  -- "arc cosine -1 to 1"
 acosReply before x = floatReply (lower before (unless badNumber (magnitude x f1))) (acosOf x)
 
--- "query points to 200,000"
-unfoldable pub primDistReply : ℕ → ℕ → Shape → Vec3 → Reply
+unfoldable pub primDistReply : ℕ → ℕ → Shape → Vec3 → Reply  -- "query points to 200,000"
 primDistReply before kind s p =
     floatReply (lower before (lower (primNumber kind s) (unless badNumber (within p farthest)))) (distOf s p)
 

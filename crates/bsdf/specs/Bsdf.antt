@@ -1,4 +1,4 @@
--- The surface's part of light, as the source's shade.rs has it. Definitions only.
+-- The surface's part of light, as the source's shade.rs has it.
 use lib.Ieee.{Float}
 use Rattle.root.specs.Root.{rootOf}
 use Rattle.scalar.specs.F32.{_⊕_, _⊖_, _⊗_, _⊘_, f0, fhalf, f1, fpi, f0·04, f1e-9}
@@ -6,15 +6,13 @@ use Rattle.scalar.specs.Extremes.{fmax, clampOf}
 use Rattle.vec.specs.declared.Vec3.{Vec3}
 use Rattle.vec.specs.Vec.{vsplat, vadd, vsub, vscale, vlerp}
 
--- Schlick's: r is the reflectance straight on
-unfoldable pub fresnelOf : Float → Vec3 → Vec3
+unfoldable pub fresnelOf : Float → Vec3 → Vec3  -- Schlick's: r is the reflectance straight on
 fresnelOf c r =
     let m = clampOf (f1 ⊖ c) f0 f1 in
     let m2 = m ⊗ m in
     vadd r (vscale (vsub (vsplat f1) r) (m2 ⊗ m2 ⊗ m))
 
--- the GGX distribution, at the cosine h of the half vector
-unfoldable pub dGgxOf : Float → Float → Float
+unfoldable pub dGgxOf : Float → Float → Float  -- the GGX distribution, at the cosine h of the half vector
 dGgxOf h alpha =
     let a2 = alpha ⊗ alpha in
     let d = h ⊗ h ⊗ (a2 ⊖ f1) ⊕ f1 in

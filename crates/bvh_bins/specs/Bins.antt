@@ -1,4 +1,4 @@
--- "12 bins; splits tried from 11 down, a strictly lower cost wins." Definitions only.
+-- "12 bins; splits tried from 11 down, a strictly lower cost wins."
 use Prim.Native.Nat.{ℕ, zero, suc, _+_, min}
 use mathlib.Core.Bool.{cond, _||_}
 use mathlib.Core.List.{List, [], _∷_}
@@ -16,8 +16,7 @@ use Rattle.bvh_range.specs.Range.{extentOf, axisOf}
 use Rattle.bvh_bins.specs.declared.Grid.{Grid}
 use Rattle.bvh_bins.specs.declared.Sweep.{Sweep}
 
--- where the bins lie: the axis, its low end and 12 by its extent
-unfoldable pub gridOf : Aabb → Grid
+unfoldable pub gridOf : Aabb → Grid  -- where the bins lie: the axis, its low end and 12 by its extent
 gridOf c =
     record {
       axis = axisOf (extentOf c);
@@ -25,20 +24,16 @@ gridOf c =
       scale = f12 ⊘ vaxis (extentOf c) (axisOf (extentOf c));
     }
 
--- "A bin's `as usize` truncates a float: worked out, 0 to 11": toward zero, to the nearest end of the range, and from a
--- NaN to 0
-abbrev pub binAt : Float → ℕ
+abbrev pub binAt : Float → ℕ  -- "truncates a float: 0 to 11": toward zero, to the nearest end, from a NaN to 0
 binAt x = min (toUnsigned 64 x) 11
 
 unfoldable pub binOf : Grid → Aabb → ℕ
 binOf g b = binAt ((vaxis (centreOf b) (g .axis) ⊖ g .low) ⊗ g .scale)
 
--- a sum of counts that stops at the greatest 32-bit number, which no count reaches
-unfoldable pub plus : ℕ → ℕ → ℕ
+unfoldable pub plus : ℕ → ℕ → ℕ  -- a sum of counts that stops at the greatest 32-bit number, which no count reaches
 plus a b = min (a + b) 4294967295
 
--- each bin's box and its count
-pub record Bins : Type 0 where
+pub record Bins : Type 0 where  -- each bin's box and its count
   pub boxes : List Aabb
   pub counts : List ℕ
 
@@ -56,14 +51,12 @@ unfoldable pub binsFrom : Grid → Bins → List Aabb → Bins
 binsFrom g σ [] = σ
 binsFrom g σ (b ∷ bs) = binsFrom g (dropIn g σ b) bs
 
--- the source's `sa`
-unfoldable pub area : Aabb → Float
+unfoldable pub area : Aabb → Float  -- the source's `sa`
 area b =
     let d = vsub (b .hi) (b .lo) in
     cond (lt (b .hi .x) (b .lo .x)) f0 (f2 ⊗ (d .x ⊗ d .y ⊕ d .y ⊗ d .z ⊕ d .z ⊗ d .x))
 
--- the first i bins together
-unfoldable pub leftBox : Bins → ℕ → Aabb
+unfoldable pub leftBox : Bins → ℕ → Aabb  -- the first i bins together
 leftBox σ zero = nowhere
 leftBox σ (suc i) = merge (leftBox σ i) (boxAt (σ .boxes) i)
 
@@ -82,18 +75,15 @@ unfoldable pub choose : Sweep → Float → ℕ → ℕ → Sweep
 choose s la lc i =
     cond (eqb lc 0 || eqb (s .count) 0) s
     (cond (lt (costOf la lc (s .hull) (s .count)) (s .cost))
-    (record { hull = s .hull; count = s .count; cost = costOf la lc (s .hull) (s .count); split = i })
-    s)
+    (record { hull = s .hull; count = s .count; cost = costOf la lc (s .hull) (s .count); split = i }) s)
 
--- one bin more from the right
-unfoldable pub takeBin : Sweep → Aabb → ℕ → Sweep
+unfoldable pub takeBin : Sweep → Aabb → ℕ → Sweep  -- one bin more from the right
 takeBin s b n = record { hull = merge (s .hull) b; count = plus (s .count) n; cost = s .cost; split = s .split }
 
 unfoldable pub stepAt : Bins → ℕ → Sweep → Sweep
 stepAt σ i s = choose (takeBin s (boxAt (σ .boxes) i) (getD (σ .counts) i 0)) (area (leftBox σ i)) (leftCount σ i) i
 
--- splits k, k - 1, .., 1
-unfoldable pub sweepFrom : Bins → ℕ → Sweep → Sweep
+unfoldable pub sweepFrom : Bins → ℕ → Sweep → Sweep  -- splits k, k - 1, .., 1
 sweepFrom σ zero s = s
 sweepFrom σ (suc k) s = sweepFrom σ k (stepAt σ (suc k) s)
 

@@ -12,7 +12,8 @@ use Rattle.scalar.specs.Ranges.{between, magnitude}
 use Rattle.vec.specs.Vec.{vsplat, vmin, vmax}
 use Rattle.sdf.specs.declared.Aabb.{Aabb}
 use Rattle.refusals.specs.Ranges.{greatest, within}
-use Rattle.bvh_boxes.specs.Boxes.{finiteBox, atMost, inside, nowhere, merge, hullFrom, boxAt}
+use Rattle.bvh_boxes.specs.Boxes.{finiteBox, atMost, inside, nowhere, merge, boxAt}
+use Rattle.bvh_boxes.specs.Inside.Hulls.{hullFrom}
 use Rattle.bvh_boxes.proofs.Vectors.{Below, Finite, below-of, of-below, finite-of, of-finite, at-least}
 use Rattle.bvh_boxes.proofs.Vectors.{at-most}
 use Rattle.bvh_boxes.proofs.Vectors.{finite-numbers, fmin-top, fmax-bottom, below-refl, below-trans, vmin-left}

@@ -8,7 +8,8 @@ use native.Mathlib.Omega.{arith}
 use lib.Dec.{T}
 use lib.ListN.{length, getD, length-append}
 use Rattle.sdf.specs.declared.Aabb.{Aabb}
-use Rattle.bvh_boxes.specs.Boxes.{finiteBox, inside, nowhere, hullFrom, boxAt}
+use Rattle.bvh_boxes.specs.Boxes.{finiteBox, inside, nowhere, boxAt}
+use Rattle.bvh_boxes.specs.Inside.Hulls.{hullFrom}
 use Rattle.bvh_boxes.proofs.Laws.{StandIn, hull-whole, hull-holds, hull-of-some}
 use Rattle.bvh_rules.specs.Rules.{hull, weight, Boxed}
 use Rattle.bvh_range.specs.Range.{members, spanOf}

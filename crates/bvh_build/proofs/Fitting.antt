@@ -18,7 +18,8 @@ use Rattle.sdf.specs.Boxes.{boundsOf, widened, boxIn, boxOf}
 use Rattle.refusals.specs.Ranges.{greatest}
 use Rattle.plan.specs.Plan.{Piece}
 use Rattle.float_order.proofs.Extremes.{fmin-either, fmax-either}
-use Rattle.bvh_boxes.specs.Boxes.{nowhere, merge, hullFrom, objectBox, boxAt}
+use Rattle.bvh_boxes.specs.Boxes.{nowhere, merge, objectBox, boxAt}
+use Rattle.bvh_boxes.specs.Inside.Hulls.{hullFrom}
 use Rattle.bvh_build.proofs.Stands.{Fit3, FitBox}
 
 -- ---- vectors

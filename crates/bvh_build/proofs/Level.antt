@@ -21,7 +21,8 @@ use Rattle.bvh_split.specs.Part.{cutOf}
 use Rattle.bvh_split.proofs.Cuts.{cut-length, cut-mid}
 use Rattle.bvh_build.specs.declared.Built.{Built}
 use Rattle.bvh_build.specs.Build.{TreeOrder, joined, buildOf}
-use Rattle.bvh_build.specs.Encode.{nodeWords, encode, laid, lowOf, low32}
+use Rattle.bvh_build.specs.Encode.{nodeWords, encode, laid, lowOf}
+use Rattle.bvh_build.specs.Inside.Narrow.{low32}
 use Rattle.bvh_build.specs.Inside.Lays.{Lays, Room}
 use Rattle.bvh_build.proofs.Laid.{laid-append, laid-laid}
 use Rattle.bvh_build.proofs.Fuel.{stopsAt, leftPart, rightPart, many-go, build-leaf, build-parts}

@@ -24,7 +24,8 @@ use Rattle.bvh_range.proofs.Table.{box-count, box-here}
 use Rattle.bvh_split.proofs.Perms.{Each}
 use Rattle.bvh_build.specs.declared.Built.{Built}
 use Rattle.bvh_build.specs.Build.{TreeOrder, buildOf}
-use Rattle.bvh_build.specs.Encode.{laid, low32}
+use Rattle.bvh_build.specs.Encode.{laid}
+use Rattle.bvh_build.specs.Inside.Narrow.{low32}
 use Rattle.bvh_build.specs.Tables.{builtOf, sizeOf, lowEnough, nodesWith, orderWith}
 use Rattle.bvh_build.specs.Inside.Lays.{Lays, Room, Builds, BuildsFew, zeroBox}
 use Rattle.bvh_build.proofs.Laid.{laid-here, laid-front}

@@ -1,6 +1,5 @@
 -- "The builder follows `build_recursive`, and the count of the range it works on falls at each call." The boxes of
 -- objects are bs, a range is a list of object numbers; what is built is a tree and the order that its leaves stand for.
--- Definitions only.
 use Prim.Native.Nat.{ℕ, zero, suc}
 use mathlib.Core.Bool.{cond}
 use mathlib.Core.List.{List, _++_}
@@ -15,8 +14,7 @@ pub record TreeOrder : Type 0 where
   pub tree : Tree
   pub order : List ℕ
 
--- a leaf, or two parts
-pub data Way : Type 0 where
+pub data Way : Type 0 where  -- a leaf, or two parts
   stop : Way
   halves : ℕ → List ℕ → Way
 
@@ -38,8 +36,7 @@ abbrev pub onWay : Way → TreeOrder → (ℕ → List ℕ → TreeOrder) → Tr
 onWay stop m f = m
 onWay (halves mid os) m f = f mid os
 
--- with so many calls left; as many as there are objects are enough
-unfoldable pub buildFrom : ℕ → List Aabb → List ℕ → TreeOrder
+unfoldable pub buildFrom : ℕ → List Aabb → List ℕ → TreeOrder  -- with so many calls left: one an object is enough
 buildFrom zero bs os = leafOf bs os
 buildFrom (suc k) bs os =
     onWay (wayOf bs os) (leafOf bs os)

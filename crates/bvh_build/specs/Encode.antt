@@ -1,6 +1,6 @@
--- A tree's words in the nodes table: nine to a node, in pre-order. Definitions only.
+-- A tree's words in the nodes table: nine to a node, in pre-order.
 use Prim.Native.Nat.{ℕ, suc, _+_, _-_}
-use mathlib.Core.Bool.{Bool, cond, _&&_}
+use mathlib.Core.Bool.{Bool, _&&_}
 use mathlib.Core.List.{List, [], _∷_, _++_}
 use lib.ListN.{set}
 use lib.Dec.{ltb}
@@ -17,22 +17,15 @@ nodeWords b start count right =
     wordFor (b .hi .x) ∷ wordFor (b .hi .y) ∷ wordFor (b .hi .z) ∷
     start ∷ count ∷ right ∷ []
 
--- the tree at place `at` whose first leaf starts at s
-unfoldable pub encode : Tree → ℕ → ℕ → List ℕ
+unfoldable pub encode : Tree → ℕ → ℕ → List ℕ  -- the tree at place `at` whose first leaf starts at s
 encode (leaf b c) at s = nodeWords b s c 0
 encode (node b l r) at s =
     nodeWords b 0 0 (at + 1 + size l) ++ (encode l (at + 1) s ++ encode r (at + 1 + size l) (s + weight l))
 
--- a list with others laid over it from place i on; what goes past its end is lost
-unfoldable pub laid : {A : Type 0} → List A → ℕ → List A → List A
+unfoldable pub laid : {A : Type 0} → List A → ℕ → List A → List A  -- laid over a list from place i on, to its end
 laid xs i [] = xs
 laid xs i (v ∷ vs) = laid (set xs i v) (suc i) vs
 
--- no node of the tree is as deep as k
-unfoldable pub lowOf : Tree → ℕ → Bool
+unfoldable pub lowOf : Tree → ℕ → Bool  -- no node of the tree is as deep as k
 lowOf (leaf b c) k = ltb 0 k
 lowOf (node b l r) k = lowOf l (k - 1) && lowOf r (k - 1)
-
--- a number that fits a word, else 0
-abbrev pub low32 : ℕ → ℕ
-low32 x = cond (ltb x 4294967296) x 0

@@ -1,5 +1,4 @@
--- What is built of a plan's objects: the tree, how many nodes it has, whether it is low enough, and what it leaves in
--- tables of nodes and order. Definitions only.
+-- What is built of a plan's objects: the tree, its size, whether it is low enough, and what it leaves in both tables.
 use Prim.Native.Nat.{ℕ}
 use mathlib.Core.Bool.{Bool, true, cond}
 use mathlib.Core.List.{List}
@@ -12,12 +11,10 @@ use Rattle.bvh_rules.specs.Rules.{size, place}
 use Rattle.bvh_build.specs.Build.{TreeOrder, buildOf}
 use Rattle.bvh_build.specs.Encode.{encode, laid, lowOf}
 
--- the tree that the source builds of a plan's objects
-unfoldable pub builtOf : Plan → TreeOrder
+unfoldable pub builtOf : Plan → TreeOrder  -- the tree that the source builds of a plan's objects
 builtOf p = buildOf (boxesOf p) (listFrom place 0 (length (p .objects)))
 
--- ---- the whole build in tables nodes and order, with no objects none
-unfoldable pub sizeOf : Plan → ℕ
+unfoldable pub sizeOf : Plan → ℕ  -- with no objects no nodes
 sizeOf p = cond (eqb (length (p .objects)) 0) 0 (size (builtOf p .tree))
 
 unfoldable pub lowEnough : Plan → Bool

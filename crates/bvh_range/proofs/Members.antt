@@ -8,7 +8,8 @@ use native.Mathlib.Omega.{arith}
 use lib.ListN.{length, getD, drop, drop-of-length-le}
 use lib.Seq.{drop-cons}
 use Rattle.sdf.specs.declared.Aabb.{Aabb}
-use Rattle.bvh_boxes.specs.Boxes.{nowhere, merge, hullFrom, boxAt}
+use Rattle.bvh_boxes.specs.Boxes.{nowhere, merge, boxAt}
+use Rattle.bvh_boxes.specs.Inside.Hulls.{hullFrom}
 use Rattle.bvh_range.specs.declared.Span.{Span}
 use Rattle.bvh_range.specs.Range.{members, point, grow, spanFrom, spanOf}
 

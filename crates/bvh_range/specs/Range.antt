@@ -1,6 +1,5 @@
 -- The range of objects that a node covers: its box, the box of its centres, and whether it is a leaf. "Leaf at 4 or
 -- fewer or centroid extent below 1e-9. At a tie of extents the source's tests decide (x equal to y, above z: axis y)."
--- Definitions only.
 use Prim.Native.Nat.{ℕ}
 use mathlib.Core.Bool.{Bool, cond, _&&_, _||_}
 use mathlib.Core.List.{List, [], _∷_}
@@ -14,16 +13,14 @@ use Rattle.sdf.specs.Boxes.{centreOf}
 use Rattle.bvh_boxes.specs.Boxes.{nowhere, merge, boxAt}
 use Rattle.bvh_range.specs.declared.Span.{Span}
 
--- the boxes of the objects of a range
-unfoldable pub members : List Aabb → List ℕ → List Aabb
+unfoldable pub members : List Aabb → List ℕ → List Aabb  -- the boxes of the objects of a range
 members bs [] = []
 members bs (o ∷ os) = boxAt bs o ∷ members bs os
 
 abbrev pub point : Aabb → Aabb
 point b = record { lo = centreOf b; hi = centreOf b }
 
--- one box more
-unfoldable pub grow : Span → Aabb → Span
+unfoldable pub grow : Span → Aabb → Span  -- one box more
 grow s b = record { hull = merge (s .hull) b; centres = merge (s .centres) (point b) }
 
 unfoldable pub spanFrom : Span → List Aabb → Span

@@ -1,5 +1,4 @@
--- "A node is lo x y z, hi x y z, start, count, right": what the words of the nodes stand for, held as whole numbers (w)
--- and as floats (f) at the same places, and where nodes and order lie in a call's table. Definitions only.
+-- "A node is lo x y z, hi x y z, start, count, right": of words (w) and floats (f); nodes and order of a call's table.
 use Prim.Native.Nat.{ℕ, _+_, _*_}
 use mathlib.Core.List.{List}
 use lib.ListN.{take, drop}
@@ -9,12 +8,10 @@ use Rattle.plan.specs.Sections.{nodesFirst, nodesWords, orderFirst, orderPlaces
 use Rattle.plan.specs.Records.{wordOf, floatOf}
 use Rattle.bvh_rules.specs.declared.Node.{Node}
 
--- ---- how many nodes there may be
-abbrev pub nodesMost : ℕ
+abbrev pub nodesMost : ℕ  -- how many nodes there may be
 nodesMost = 511
 
--- ---- the nodes and the order of a call's table
-unfoldable pub nodesOf : {A : Type 0} → List A → List A
+unfoldable pub nodesOf : {A : Type 0} → List A → List A  -- of a call's table
 nodesOf t = take nodesWords (drop nodesFirst t)
 
 unfoldable pub orderOf : {A : Type 0} → List A → List A
@@ -32,9 +29,8 @@ nodeAt w f at =
       right = wordOf w (9 * at + 8);
     }
 
--- an interior node has count 0, start 0; a leaf has count above 0 and right 0
-abbrev pub innerNode : Aabb → ℕ → Node
+abbrev pub innerNode : Aabb → ℕ → Node  -- an interior node has count 0 and start 0
 innerNode b right = record { hull = b; start = 0; count = 0; right = right }
 
-abbrev pub leafNode : Aabb → ℕ → ℕ → Node
+abbrev pub leafNode : Aabb → ℕ → ℕ → Node  -- a leaf has right 0
 leafNode b start count = record { hull = b; start = start; count = count; right = 0 }

@@ -1,4 +1,4 @@
--- The tree rules, clause by clause. Definitions only.
+-- The tree rules, clause by clause.
 use Prim.Native.Nat.{ℕ, _+_, _≤_, _<_, max}
 use mathlib.Core.Path.{_≡_}
 use mathlib.Core.Logic.{_⊎_}
@@ -11,8 +11,7 @@ use Rattle.plan.specs.Records.{wordOf}
 use Rattle.bvh_boxes.specs.Boxes.{finiteBox, inside, boxAt}
 use Rattle.bvh_rules.specs.Nodes.{nodeAt, innerNode, leafNode}
 
--- a leaf over c places of the order table, or a node over two trees; each has its box
-pub data Tree : Type 0 where
+pub data Tree : Type 0 where  -- a leaf over c places of the order table, or a node over two trees; each has its box
   leaf : Aabb → ℕ → Tree
   node : Aabb → Tree → Tree → Tree
 
@@ -20,21 +19,18 @@ abbrev pub hull : Tree → Aabb
 hull (leaf b c) = b
 hull (node b l r) = b
 
--- how many nodes, and how many places of the order table
-abbrev pub size : Tree → ℕ
+abbrev pub size : Tree → ℕ  -- how many nodes
 size (leaf b c) = 1
 size (node b l r) = 1 + size l + size r
 
-abbrev pub weight : Tree → ℕ
+abbrev pub weight : Tree → ℕ  -- how many places of the order table
 weight (leaf b c) = c
 weight (node b l r) = weight l + weight r
 
--- a place of the order as itself: `listFrom place s n` are n places from s on
-abbrev pub place : ℕ → ℕ
+abbrev pub place : ℕ → ℕ  -- a place of the order as itself: `listFrom place s n` are n places from s on
 place i = i
 
--- "Depth: the root is at 0"
-abbrev pub depth : Tree → ℕ
+abbrev pub depth : Tree → ℕ  -- "Depth: the root is at 0"
 depth (leaf b c) = 0
 depth (node b l r) = 1 + max (depth l) (depth r)
 
@@ -53,8 +49,7 @@ Boxed o bs s (leaf b c) = T (finiteBox b) × ((i : ℕ) → s ≤ i → i < s + 
 Boxed o bs s (node b l r) =
     T (finiteBox b) × (T (inside (hull l) b) × T (inside (hull r) b)) × (Boxed o bs s l × Boxed o bs (s + weight l) r)
 
--- "The order table holds each object once."
-pub record Once (o : List ℕ) (n : ℕ) : Type 0 where
+pub record Once (o : List ℕ) (n : ℕ) : Type 0 where  -- "The order table holds each object once."
   pub below : (i : ℕ) → i < n → wordOf o i < n
   pub apart : (i j : ℕ) → i < j → j < n → wordOf o i ≡ wordOf o j → ⊥
 
@@ -65,11 +60,9 @@ pub record Holds (w : List ℕ) (f : List Float) (o : List ℕ) (bs : List Aabb)
   pub once : Once o (length bs)
   pub boxed : Boxed o bs 0 t
 
--- "no node is deeper than 63"
 pub record Accepted (w : List ℕ) (f : List Float) (o : List ℕ) (bs : List Aabb) (t : Tree) : Type 0 where
   pub holds : Holds w f o bs t
-  pub low : depth t ≤ 63
+  pub low : depth t ≤ 63  -- "no node is deeper than 63"
 
--- "No objects: no nodes", and no word is judged
-unfoldable pub MeetsRules : List ℕ → List Float → List ℕ → List Aabb → Type 0
+unfoldable pub MeetsRules : List ℕ → List Float → List ℕ → List Aabb → Type 0  -- "No objects: no nodes"
 MeetsRules w f o bs = (length bs ≡ 0) ⊎ ((t : Tree) × Accepted w f o bs t)

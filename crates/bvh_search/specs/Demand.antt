@@ -23,12 +23,10 @@ In a [] = ⊥
 In a (x ∷ xs) = (a ≡ x) ⊎ In a xs
 
 module _ (o : List ℕ) (w : List ℕ) (f : List Float) (p : Vec3) where
-  -- the distance of the object at place i of the order
-  abbrev pub dist : ℕ → Float
+  abbrev pub dist : ℕ → Float  -- the distance of the object at place i of the order
   dist i = pieceDist (pieceIn w f o i) p
 
-  -- only a NaN differs from itself
-  abbrev pub Number : Float → Type 0
+  abbrev pub Number : Float → Type 0  -- only a NaN differs from itself
   Number x = T (eq x x)
 
   -- d is the least, by value, of the bound and of those distances at the places seen that are numbers

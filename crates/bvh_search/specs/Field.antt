@@ -1,5 +1,4 @@
 -- A plan's objects and its field, by the tree or by the list: "`dist_mat` takes planes in order, then objects".
--- Definitions only.
 use Prim.Native.Nat.{ℕ}
 use mathlib.Core.Bool.{true, cond}
 use mathlib.Core.List.{List}
@@ -17,8 +16,7 @@ use Rattle.bvh_search.specs.Search.{searched, searchOf}
 -- by the tree where it is 1, else by the list, which evaluates every object
 unfoldable pub hitBy : ℕ → List ℕ → List Float → Vec3 → DistHit → Searched
 hitBy tree w f p bound =
-    cond (eqb tree 1)
-    (searchOf (nodesOf w) (nodesOf f) (orderOf w) w f p bound)
+    cond (eqb tree 1) (searchOf (nodesOf w) (nodesOf f) (orderOf w) w f p bound)
     (searched (listHit (planOf w f) p bound) 0 (countOf objects w) true)
 
 unfoldable pub fieldBy : ℕ → List ℕ → List Float → Vec3 → DistHit

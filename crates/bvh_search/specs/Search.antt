@@ -1,5 +1,5 @@
 -- "The search pops, skips a node whose box distance is at least the present best, and pushes the farther child first,
--- the left child when equal. It reports nodes popped and objects evaluated." Definitions only.
+-- the left child when equal. It reports nodes popped and objects evaluated."
 use Prim.Native.Nat.{ℕ, zero, suc, _+_, _-_, min}
 use mathlib.Core.Bool.{Bool, true, false, cond}
 use mathlib.Core.List.{List, [], _∷_}
@@ -19,24 +19,19 @@ use Rattle.bvh_rules.specs.Nodes.{nodesMost, nodeAt}
 use Rattle.bvh_search.specs.declared.Scan.{Scan}
 use Rattle.bvh_search.specs.declared.Searched.{Searched}
 
--- the object at place i of the order
-unfoldable pub pieceIn : List ℕ → List Float → List ℕ → ℕ → Piece
+unfoldable pub pieceIn : List ℕ → List Float → List ℕ → ℕ → Piece  -- the object at place i of the order
 pieceIn w f o i = pieceAt w f (objects .first + wordOf o i)
 
--- the best of a hit and c objects from place s of the order on
 unfoldable pub leafHit : List ℕ → List Float → List ℕ → Vec3 → ℕ → ℕ → DistHit → DistHit
-leafHit w f o p s c best = nearest (listFrom (pieceIn w f o) s c) p best
+leafHit w f o p s c best = nearest (listFrom (pieceIn w f o) s c) p best  -- of c objects from place s on
 
--- the same, with how many were evaluated
 abbrev pub leafScan : List ℕ → List Float → List ℕ → Vec3 → ℕ → ℕ → DistHit → Scan
-leafScan w f o p s c best = record { hit = leafHit w f o p s c best; evaluated = c }
+leafScan w f o p s c best = record { hit = leafHit w f o p s c best; evaluated = c }  -- and how many these are
 
--- as many of a leaf's places as the order table has
-unfoldable pub placesOf : Node → ℕ
+unfoldable pub placesOf : Node → ℕ  -- as many of a leaf's places as the order table has
 placesOf v = min (v .count) (orderPlaces - v .start)
 
--- what a pop comes to: the stack, the hit and how many objects more were evaluated; or a stack of 64 places with no
--- room for two
+-- what a pop comes to: the stack, the hit, how many objects more were evaluated; or 64 places with no room for two
 pub data Turn : Type 0 where
   on : List ℕ → DistHit → ℕ → Turn
   full : Turn
@@ -52,12 +47,10 @@ module _ (nw : List ℕ) (nf : List Float) (o : List ℕ) (w : List ℕ) (f : Li
   unfoldable pub nodeDist : ℕ → Float
   nodeDist a = boxDist p (nodeAt nw nf a .hull)
 
-  -- the farther child first, the left one when equal
-  unfoldable pub pushed : ℕ → ℕ → List ℕ → List ℕ
+  unfoldable pub pushed : ℕ → ℕ → List ℕ → List ℕ  -- the farther child first, the left one when equal
   pushed l r rest = cond (lt (nodeDist l) (nodeDist r)) (l ∷ r ∷ rest) (r ∷ l ∷ rest)
 
-  -- a place past the table is popped and nothing more
-  unfoldable pub turnOf : ℕ → List ℕ → DistHit → Turn
+  unfoldable pub turnOf : ℕ → List ℕ → DistHit → Turn  -- a place past the table is popped and nothing more
   turnOf a rest b =
       cond (le (b .d) (nodeDist a)) (on rest b 0)
       (cond (ltb a nodesMost)
@@ -78,6 +71,5 @@ module _ (nw : List ℕ) (nf : List Float) (o : List ℕ) (w : List ℕ) (f : Li
   runOf (suc fuel) (a ∷ rest) b k e =
       onTurn (turnOf a rest b) (λ l h c. runOf fuel l h (k + 1) (e + c)) (searched b (k + 1) e false)
 
-  -- with no objects nothing is popped
-  unfoldable pub searchOf : DistHit → Searched
+  unfoldable pub searchOf : DistHit → Searched  -- with no objects nothing is popped
   searchOf bound = cond (eqb (countOf objects w) 0) (searched bound 0 0 true) (runOf nodesMost (0 ∷ []) bound 0 0)

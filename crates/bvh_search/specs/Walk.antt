@@ -1,5 +1,5 @@
 -- The search as a walk of the tree, with what it does written down: the places of the order whose objects it evaluates,
--- and the subtrees that it passes over. Definitions only.
+-- and the subtrees that it passes over.
 use Prim.Native.Nat.{ℕ, _+_}
 use mathlib.Core.Bool.{cond}
 use mathlib.Core.List.{List, [], _∷_, _++_}
@@ -11,8 +11,7 @@ use Rattle.plan.specs.declared.DistHit.{DistHit}
 use Rattle.bvh_rules.specs.Rules.{Tree, leaf, node, hull, weight, place}
 use Rattle.bvh_search.specs.Search.{leafHit}
 
--- a subtree and the first place of the order under it
-pub record Passed : Type 0 where
+pub record Passed : Type 0 where  -- a subtree and the first place of the order under it
   pub under : Tree
   pub first : ℕ
 
@@ -29,8 +28,7 @@ module _ (o : List ℕ) (w : List ℕ) (f : List Float) (p : Vec3) where
   abbrev pub near : Tree → Float
   near t = boxDist p (hull t)
 
-  -- a node popped
-  abbrev pub more : Walk → Walk
+  abbrev pub more : Walk → Walk  -- a node popped
   more σ = record { best = σ .best; popped = σ .popped + 1; seen = σ .seen; passed = σ .passed }
 
   abbrev pub skip : Tree → ℕ → Walk → Walk
@@ -51,8 +49,7 @@ module _ (o : List ℕ) (w : List ℕ) (f : List Float) (p : Vec3) where
         passed = σ .passed;
       }
 
-  -- the tree whose first place is s
-  unfoldable pub visit : Tree → ℕ → Walk → Walk
+  unfoldable pub visit : Tree → ℕ → Walk → Walk  -- the tree whose first place is s
   visit (leaf b c) s σ = cond (le (σ .best .d) (boxDist p b)) (skip (leaf b c) s σ) (evaluate s c σ)
   visit (node b l r) s σ =
       cond (le (σ .best .d) (boxDist p b)) (skip (node b l r) s σ)

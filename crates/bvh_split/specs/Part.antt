@@ -1,4 +1,4 @@
--- "Partition by the source's swaps. A split with an empty side becomes count/2." Definitions only.
+-- "Partition by the source's swaps. A split with an empty side becomes count/2."
 use Prim.Native.Nat.{ℕ, zero, suc, _+_, _/_}
 use mathlib.Core.Bool.{Bool, cond, _||_}
 use mathlib.Core.List.{List}
@@ -10,8 +10,7 @@ use Rattle.bvh_range.specs.Range.{members}
 use Rattle.bvh_bins.specs.declared.Grid.{Grid}
 use Rattle.bvh_bins.specs.Bins.{gridOf, binOf, noBins, binsFrom, splitBy}
 
--- the elements at i and j exchanged, where both are there
-unfoldable pub swapped : ℕ → ℕ → List ℕ → List ℕ
+unfoldable pub swapped : ℕ → ℕ → List ℕ → List ℕ  -- the elements at i and j exchanged, where both are there
 swapped i j xs =
     cond (ltb i (length xs)) (cond (ltb j (length xs)) (set (set xs i (getD xs j 0)) j (getD xs i 0)) xs) xs
 
@@ -22,8 +21,7 @@ pub record Parted : Type 0 where
   pub mid : ℕ
   pub order : List ℕ
 
--- n more steps, from place i on
-unfoldable pub partFrom : List Aabb → Grid → ℕ → ℕ → ℕ → ℕ → List ℕ → Parted
+unfoldable pub partFrom : List Aabb → Grid → ℕ → ℕ → ℕ → ℕ → List ℕ → Parted  -- n more steps, from place i on
 partFrom bs g split zero i mid os = record { mid = mid; order = os }
 partFrom bs g split (suc n) i mid os =
     partFrom bs g split n (i + 1)
@@ -36,12 +34,10 @@ parted bs g split os = partFrom bs g split (length os) 0 0 os
 unfoldable pub evened : ℕ → ℕ → ℕ
 evened mid n = cond (eqb mid 0 || eqb mid n) (n / 2) mid
 
--- the split that the source takes of a range whose centres lie in c
-unfoldable pub splitOf : List Aabb → List ℕ → Aabb → ℕ
+unfoldable pub splitOf : List Aabb → List ℕ → Aabb → ℕ  -- the source's, of a range whose centres lie in c
 splitOf bs os c = splitBy (binsFrom (gridOf c) noBins (members bs os))
 
--- the range in two parts
-unfoldable pub cutOf : List Aabb → List ℕ → Aabb → Parted
+unfoldable pub cutOf : List Aabb → List ℕ → Aabb → Parted  -- the range in two parts
 cutOf bs os c =
     let p = parted bs (gridOf c) (splitOf bs os c) os in
     record { mid = evened (p .mid) (length os); order = p .order }

@@ -1,5 +1,5 @@
 -- "`emitter_hit` goes through the caller's list of light records as lent": the nearest one that the ray meets before
--- its end, on the emitting side. Definitions only.
+-- its end, on the emitting side.
 use mathlib.Core.Bool.{Bool, true, cond, _&&_}
 use mathlib.Core.List.{List, [], _∷_}
 use lib.Ieee.{Float, lt}
@@ -26,8 +26,7 @@ abbrev pub emitterAt : Vec3 → Float → Emitted → Panel → Crossing → Emi
 emitterAt rd tmax best a Apart = best
 emitterAt rd tmax best a (At t) = cond (showsOf best a rd tmax t) (Shows t (a .emit)) best
 
--- one light
-unfoldable pub emitterStep : Vec3 → Vec3 → Float → Emitted → QuadLight → Emitted
+unfoldable pub emitterStep : Vec3 → Vec3 → Float → Emitted → QuadLight → Emitted  -- one light
 emitterStep ro rd tmax best l = emitterAt rd tmax best (panelOf l) (intersectOf (panelOf l .quad) ro rd)
 
 unfoldable pub emitterFrom : Vec3 → Vec3 → Float → Emitted → List QuadLight → Emitted

@@ -1,5 +1,4 @@
 -- "`emitter_hit` tests each lent record as on entry" (1, 4), and more than 16 get 2: then no record is judged.
--- Definitions only.
 use Prim.Native.Nat.{ℕ}
 use mathlib.Core.Bool.{Bool, cond}
 use mathlib.Core.List.{List, []}
@@ -18,12 +17,10 @@ use Rattle.bemitondry_emitter.specs.Emitter.{aimOk, emittedReply}
 unfoldable pub few : ℕ → Bool
 few n = leb n 16
 
--- the lights that are gone through
-unfoldable pub judged : List QuadLight → List QuadLight
+unfoldable pub judged : List QuadLight → List QuadLight  -- the lights that are gone through
 judged ls = cond (few (length ls)) ls []
 
--- what n lights and a ray get, whatever the lights are
-unfoldable pub askedNumber : ℕ → Vec3 → Vec3 → Float → ℕ
+unfoldable pub askedNumber : ℕ → Vec3 → Vec3 → Float → ℕ  -- what n lights and a ray get, whatever the lights are
 askedNumber n ro rd tmax = lower (unless noRoom (few n)) (unless badNumber (aimOk ro rd tmax))
 
 unfoldable pub listNumber : List QuadLight → Vec3 → Vec3 → Float → ℕ

@@ -1,5 +1,5 @@
 -- The specular part: the source's representative point and lobe. "Where the computed length from shading point to
--- representative point is 0, that light gives no specular part." Definitions only.
+-- representative point is 0, that light gives no specular part."
 use mathlib.Core.Bool.{cond}
 use lib.Ieee.{Float, le, lt, eq}
 use Rattle.scalar.specs.F32.{_⊕_, _⊗_, _⊘_, f0, f1, f2, f1e-3, f1e-4, f1e-6}
@@ -24,8 +24,7 @@ viewOf n v m =
       kd = diffuseAlbedoOf (m .albedo) (m .metallic);
     }
 
--- ---- the representative point
-unfoldable pub mirrorOf : Vec3 → Vec3 → Vec3
+unfoldable pub mirrorOf : Vec3 → Vec3 → Vec3  -- the representative point
 mirrorOf n v = vsub (vneg v) (vscale n (f2 ⊗ vdot n (vneg v)))
 
 -- the panel's point nearest to where r meets its plane at t, where that lies ahead; else its centre
@@ -40,8 +39,7 @@ repAlong p a r =
 unfoldable pub repOf : Site → Vec3 → Panel → Vec3
 repOf s v a = repAlong (s .p) a (mirrorOf (s .n) v)
 
--- ---- the lobe about the direction l, where n · l is nl
-unfoldable pub wideOf : Float → Float → Float → Float
+unfoldable pub wideOf : Float → Float → Float → Float  -- the lobe about the direction l, where n · l is nl
 wideOf alpha radius dist = clampOf (alpha ⊕ radius ⊘ (f2 ⊗ fmax dist f1e-4)) alpha f1
 
 unfoldable pub lobeOf : View → Vec3 → Vec3 → Float → Float → Vec3

@@ -1,5 +1,5 @@
 -- The frame of a normal, and a quad seen in it from a point, as the source's ltc.rs has them: "`to_local` reverses the
--- corners". Definitions only.
+-- corners".
 use mathlib.Core.Bool.{cond}
 use lib.Ieee.{Float, neg, le}
 use Rattle.scalar.specs.F32.{_⊕_, _⊗_, _⊘_, f0, f1}
@@ -8,8 +8,7 @@ use Rattle.vec.specs.Vec.{vsub, vdot}
 use Rattle.quad.specs.declared.Quad.{Quad}
 use Rattle.ltc.specs.declared.Axes.{Axes}
 
--- 1 with the sign of a normal's z
-unfoldable pub sideOf : Float → Float
+unfoldable pub sideOf : Float → Float  -- 1 with the sign of a normal's z
 sideOf z = cond (le f0 z) f1 (neg f1)
 
 unfoldable pub frameOf : Vec3 → Axes

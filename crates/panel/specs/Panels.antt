@@ -1,5 +1,4 @@
--- A light as shading uses it, and number 9: "the computed length from shading point to some
--- light's centre is 0". Definitions only.
+-- A light as shading uses it, and number 9: "the computed length from shading point to some light's centre is 0".
 use Prim.Native.Nat.{ℕ}
 use mathlib.Core.Bool.{Bool, cond}
 use mathlib.Core.List.{List}
@@ -22,8 +21,7 @@ unfoldable pub panelOf : QuadLight → Panel
 panelOf l =
     record { quad = quadOf l; center = centerOf (quadOf l); normal = normalOf (quadOf l); emit = l .emit }
 
--- it faces away from a point that `to` leads from
-unfoldable pub culledOf : Panel → Vec3 → Bool
+unfoldable pub culledOf : Panel → Vec3 → Bool  -- it faces away from a point that `to` leads from
 culledOf a to = le (vdot (a .normal) (vneg (vnormalize to))) f0
 
 unfoldable pub radiusOf : Panel → Float
@@ -32,6 +30,5 @@ radiusOf a = fmax (rootOf (areaOf (a .quad) ⊘ fpi)) f1e-4
 unfoldable pub atLightNumber : Vec3 → QuadLight → ℕ
 atLightNumber p l = cond (eq (vlength (vsub (panelOf l .center) p)) f0) atLight 0
 
--- culled lights too
-unfoldable pub panelsNumber : Vec3 → List QuadLight → ℕ
+unfoldable pub panelsNumber : Vec3 → List QuadLight → ℕ  -- culled lights too
 panelsNumber p ls = lowestOf (atLightNumber p) ls

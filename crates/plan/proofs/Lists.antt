@@ -14,7 +14,8 @@ use Rattle.words.proofs.Runs.{from-snoc}
 use Rattle.plan.specs.declared.Cutter.{Cutter}
 use Rattle.plan.specs.declared.Head.{Head}
 use Rattle.plan.specs.declared.DistHit.{DistHit}
-use Rattle.plan.specs.Records.{wordOf, floatOf, vecOf, noVec, noShape, noHead, cutterAt, headAt}
+use Rattle.plan.specs.Records.{wordOf, floatOf, vecOf, noVec, cutterAt, headAt}
+use Rattle.plan.specs.Inside.None.{noShape, noHead}
 use Rattle.plan.specs.Plan.{Cuts, Piece, cutsBy, pieceAt, piecesFrom}
 use Rattle.plan.specs.Nearest.{cutBy, carve, hitOf, closer, nearest}
 

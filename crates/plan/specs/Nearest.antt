@@ -1,6 +1,6 @@
 -- "An object's distance starts at its primitive and takes `max` with minus each cutter's, in order. A distance that is
 -- not a number is never nearest. `dist_mat` begins at `f32::MAX` and material 0, takes planes in order, then objects;
--- only strictly less replaces." Definitions only.
+-- only strictly less replaces."
 use mathlib.Core.Bool.{cond}
 use mathlib.Core.List.{List, [], _∷_}
 use lib.Ieee.{Float, neg, lt}
@@ -25,18 +25,15 @@ pieceDist o p = carve (o .cuts) p (distOf (o .head .shape) p)
 unfoldable pub hitOf : Piece → Vec3 → DistHit
 hitOf o p = record { d = pieceDist o p; mat = o .head .material }
 
--- only strictly less replaces
-unfoldable pub closer : DistHit → DistHit → DistHit
+unfoldable pub closer : DistHit → DistHit → DistHit  -- only strictly less replaces
 closer best hit = cond (lt (hit .d) (best .d)) hit best
 
 unfoldable pub nearest : List Piece → Vec3 → DistHit → DistHit
 nearest [] p best = best
 nearest (o ∷ os) p best = nearest os p (closer best (hitOf o p))
 
--- f32::MAX and material 0
-abbrev pub nothing : DistHit
+abbrev pub nothing : DistHit  -- f32::MAX and material 0
 nothing = record { d = greatest; mat = 0 }
 
--- the objects alone, from a bound
-unfoldable pub listHit : Plan → Vec3 → DistHit → DistHit
+unfoldable pub listHit : Plan → Vec3 → DistHit → DistHit  -- the objects alone, from a bound
 listHit p q best = nearest (p .objects) q best

@@ -1,5 +1,4 @@
--- What a row's words stand for: VIEWER.md's records, decoded from words (w) and floats (f, a NaN's bits a NaN) at the
--- same places. Definitions only.
+-- What a row's words stand for: VIEWER.md's records, as words (w) and floats (f, a NaN's bits a NaN) in the same place.
 use Prim.Native.Nat.{ℕ, _+_, _*_}
 use mathlib.Core.List.{List}
 use lib.ListN.{getD}
@@ -22,23 +21,17 @@ floatOf f i = getD f i nan
 abbrev pub vecOf : List Float → ℕ → Vec3
 vecOf f i = record { x = floatOf f i; y = floatOf f (i + 1); z = floatOf f (i + 2) }
 
--- a primitive whose kind is word i and whose eight floats are the next
-abbrev pub primOf : List ℕ → List Float → ℕ → Shape
+abbrev pub primOf : List ℕ → List Float → ℕ → Shape  -- its kind is word i, its eight floats are the next
 primOf w f i =
-    shapeOf (wordOf w i)
-    (record { x = floatOf f (i + 1); y = floatOf f (i + 2); z = floatOf f (i + 3) })
+    shapeOf (wordOf w i) (record { x = floatOf f (i + 1); y = floatOf f (i + 2); z = floatOf f (i + 3) })
     (record { x = floatOf f (i + 4); y = floatOf f (i + 5); z = floatOf f (i + 6) })
-    (floatOf f (i + 7))
-    (floatOf f (i + 8))
+    (floatOf f (i + 7)) (floatOf f (i + 8))
 
--- ---- the records in row r
--- "albedo x y z, roughness, metallic"
-unfoldable pub materialAt : List Float → ℕ → Material
+unfoldable pub materialAt : List Float → ℕ → Material  -- "albedo x y z, roughness, metallic"
 materialAt f r =
     record { albedo = vecOf f (16 * r + 0); roughness = floatOf f (16 * r + 3); metallic = floatOf f (16 * r + 4) }
 
--- "corners 0 to 3 (x y z each), emission x y z"
-unfoldable pub lightAt : List Float → ℕ → QuadLight
+unfoldable pub lightAt : List Float → ℕ → QuadLight  -- "corners 0 to 3 (x y z each), emission x y z"
 lightAt f r =
     record {
       v0 = vecOf f (16 * r + 0);
@@ -48,12 +41,10 @@ lightAt f r =
       emit = vecOf f (16 * r + 12);
     }
 
--- light l: two rows a record
-unfoldable pub lightIn : List Float → ℕ → QuadLight
+unfoldable pub lightIn : List Float → ℕ → QuadLight  -- light l: two rows a record
 lightIn f l = lightAt f (lights .first + 2 * l)
 
--- "a primitive: kind, eight words"
-unfoldable pub cutterAt : List ℕ → List Float → ℕ → Cutter
+unfoldable pub cutterAt : List ℕ → List Float → ℕ → Cutter  -- "a primitive: kind, eight words"
 cutterAt w f r = record { kind = wordOf w (16 * r); shape = primOf w f (16 * r) }
 
 -- "a piece is: material, blend, number of cutters, kind, the primitive's eight words, place of the first cutter"
@@ -68,12 +59,5 @@ headAt w f r =
       place = wordOf w (16 * r + 12);
     }
 
--- ---- what no words make
 abbrev pub noVec : Vec3
 noVec = record { x = nan; y = nan; z = nan }
-
-abbrev pub noShape : Shape
-noShape = shapeOf 0 noVec noVec nan nan
-
-abbrev pub noHead : Head
-noHead = record { material = 0; blend = nan; cutters = 0; kind = 0; shape = noShape; place = 0 }

@@ -1,15 +1,11 @@
 -- "256 objects, 16 planes, 64 materials, 16 lights; 8 cutters to one object or plane; 1,024 cutters in one table that
--- all share": VIEWER.md's sections, in rows of sixteen words. After the plan the table of a call has its arguments, and
--- then the tree. Definitions only.
+-- all share": VIEWER.md's sections, in rows of sixteen words.
 use Prim.Native.Nat.{ℕ}
 
 pub record Section : Type 0 where
-  -- the word that counts its records
-  pub count : ℕ
-  -- its first row
-  pub first : ℕ
-  -- how many records it may have
-  pub most : ℕ
+  pub count : ℕ  -- the word that counts its records
+  pub first : ℕ  -- its first row
+  pub most : ℕ  -- how many records it may have
 
 abbrev pub materials : Section
 materials = record { count = 0; first = 1; most = 64 }
@@ -17,24 +13,22 @@ materials = record { count = 0; first = 1; most = 64 }
 abbrev pub planes : Section
 planes = record { count = 1; first = 65; most = 16 }
 
--- two rows a record
-abbrev pub lights : Section
+abbrev pub lights : Section  -- two rows a record
 lights = record { count = 2; first = 81; most = 16 }
 
 abbrev pub objects : Section
 objects = record { count = 3; first = 113; most = 256 }
 
--- ---- the cutters' first row, their places, and how many a piece may have
-abbrev pub cutterRow : ℕ
+abbrev pub cutterRow : ℕ  -- the cutters' first row
 cutterRow = 369
 
-abbrev pub cutterPlaces : ℕ
+abbrev pub cutterPlaces : ℕ  -- their places
 cutterPlaces = 1024
 
-abbrev pub cutsMost : ℕ
+abbrev pub cutsMost : ℕ  -- how many a piece may have
 cutsMost = 8
 
--- ---- a call's table: the plan, the arguments from a row on, a tree's nodes and order, and zeros to a whole row
+-- a call's table: the plan, the arguments from a row on, a tree's nodes and order, and zeros to a whole row
 abbrev pub planWords : ℕ
 planWords = 22288
 

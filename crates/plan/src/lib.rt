@@ -1,7 +1,8 @@
 // The plan: rows of sixteen words, each held as a whole number and as a float at the same place; its records.
 ghost use mathlib.Core.Path.{_≡_};
 ghost use Prim.Native.Nat.{_+_, _*_};
-ghost use Rattle.plan.specs.Records.{wordOf, floatOf, vecOf, noVec, noShape, noHead, materialAt, lightAt};
+ghost use Rattle.plan.specs.Records.{wordOf, floatOf, vecOf, noVec, materialAt, lightAt};
+ghost use Rattle.plan.specs.Inside.None.{noShape, noHead};
 ghost use Rattle.plan.specs.Records.{lightIn, cutterAt, headAt};
 use sdf::Shape;
 use vec::Vec3;

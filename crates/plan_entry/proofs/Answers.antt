@@ -10,7 +10,8 @@ use Rattle.plan_test.specs.declared.Solids.{Solids}
 use Rattle.plan_test.specs.Tests.{solidsOf}
 use Rattle.plan_write.specs.Written.{argCuts, sectionOf, withPiece}
 use Rattle.plan_entry.specs.declared.Added.{Added}
-use Rattle.plan_entry.specs.Entry.{addedOf, pieceNumber, newPlace, Enters, AddsPiece}
+use Rattle.plan_entry.specs.Entry.{pieceNumber, newPlace}
+use Rattle.plan_entry.specs.Inside.Adds.{addedOf, Enters, AddsPiece}
 
 pub adds-piece
     : (before : ℕ) (among : Bool) {w : List ℕ} (f : List Float)

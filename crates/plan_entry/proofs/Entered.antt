@@ -15,8 +15,8 @@ use Rattle.words.specs.Lists.{listFrom, All}
 use Rattle.words.proofs.Runs.{from-snoc, length-from, all-from}
 use Rattle.plan.specs.Sections.{materials, planes, lights, objects, argsRow}
 use Rattle.plan.specs.Records.{wordOf, materialAt, lightAt, lightIn, cutterAt, headAt}
-use Rattle.plan.specs.Plan.{Piece, cutsBy, pieceAt, piecesFrom, countOf, planOf, seen, planIn, withMaterial, withPlane}
-use Rattle.plan.specs.Plan.{withLight, withObject}
+use Rattle.plan.specs.Plan.{Piece, cutsBy, pieceAt, piecesFrom, countOf, planOf, seen, planIn}
+use Rattle.plan.specs.With.{withMaterial, withPlane, withLight, withObject}
 use Rattle.plan.proofs.Rows.{Alike, Kept, kept, material-same, light-same, materials-kept, lights-kept, pieces-kept}
 use Rattle.plan_test.specs.declared.Solids.{Solids}
 use Rattle.record_test.specs.Numbers.{materialNumber, lightNumber}

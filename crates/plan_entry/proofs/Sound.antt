@@ -9,7 +9,8 @@ use lib.ListN.{length, length-append}
 use Rattle.words.proofs.Runs.{all-map, all-snoc}
 use Rattle.plan.specs.declared.Material.{Material}
 use Rattle.plan.specs.declared.QuadLight.{QuadLight}
-use Rattle.plan.specs.Plan.{Piece, Plan, withMaterial, withLight}
+use Rattle.plan.specs.Plan.{Piece, Plan}
+use Rattle.plan.specs.With.{withMaterial, withLight}
 use Rattle.plan_test.specs.Tests.{cuttersOf}
 use Rattle.record_test.specs.Exact.{LightOk}
 use Rattle.plan_test.specs.Exact.{PieceOk, PlaceIs, PiecesOk, SoundSolids, SoundLit}

@@ -8,15 +8,15 @@ use lib.ListN.{length, take, replicate}
 use Rattle.plan.specs.declared.Head.{Head}
 use Rattle.plan.specs.Sections.{materials, lights, planWords, argsRow, tableWords}
 use Rattle.plan.specs.Records.{materialAt, lightAt, headAt}
-use Rattle.plan.specs.Plan.{Piece, Plan, cutsBy, seen, planIn, withPlane, withObject}
+use Rattle.plan.specs.Plan.{Piece, Plan, cutsBy, seen, planIn}
+use Rattle.plan.specs.With.{withPlane, withObject}
 use Rattle.record_test.specs.Numbers.{materialNumber, lightNumber}
 use Rattle.plan_test.specs.Tests.{solidsOf}
 use Rattle.plan_write.specs.Written.{argCuts, withPiece, withMaterialWords}
 use Rattle.plan_entry.specs.Entry.{pieceNumber, recordNumber, newPlace}
 use Rattle.plan_write.specs.Written.{withLightWords}
 
--- a head with its first cutter at a place
-abbrev pub placed : Head → ℕ → Head
+abbrev pub placed : Head → ℕ → Head  -- a head with its first cutter at a place
 placed h at =
     record {
       material = h .material;
@@ -27,13 +27,11 @@ placed h at =
       place = at;
     }
 
--- the piece that the arguments stand for, its first cutter at a place
-unfoldable pub givenPiece : List ℕ → ℕ → Piece
+unfoldable pub givenPiece : List ℕ → ℕ → Piece  -- the piece that the arguments stand for, its first cutter at a place
 givenPiece w at =
     record { head = placed (headAt w (seen w) argsRow) at; cuts = cutsBy w (seen w) (argsRow + 1) (argCuts w) }
 
--- a plan with a piece more among planes, or among objects
-abbrev pub withOne : Bool → Plan → Piece → Plan
+abbrev pub withOne : Bool → Plan → Piece → Plan  -- a plan with a piece more among planes, or among objects
 withOne true p o = withPlane p o
 withOne false p o = withObject p o
 

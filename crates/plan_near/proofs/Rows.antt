@@ -22,7 +22,8 @@ use Rattle.sdf_near.specs.Inside.Near.{Near}
 use Rattle.refusals.specs.Prims.{shapeOf}
 use Rattle.words.specs.Lists.{listFrom}
 use Rattle.plan.specs.declared.DistHit.{DistHit}
-use Rattle.plan.specs.Records.{wordOf, floatOf, noVec, noShape, cutterAt}
+use Rattle.plan.specs.Records.{wordOf, floatOf, noVec, cutterAt}
+use Rattle.plan.specs.Inside.None.{noShape}
 use Rattle.plan.specs.Plan.{cutsBy, pieceAt}
 use Rattle.plan.specs.Nearest.{cutBy, carve, pieceDist, hitOf, closer}
 use Rattle.plan.proofs.Lists.{rowHead, head-row, head-past, cutter-past}

@@ -1,4 +1,4 @@
--- What a plan is where the entries left it: the statement that the tests are held to. Definitions only.
+-- What a plan is where the entries left it: the statement that the tests are held to.
 use Prim.Native.Nat.{ℕ, _+_, _≤_}
 use mathlib.Core.Path.{_≡_}
 use mathlib.Core.Bool.{Bool, true, false}
@@ -12,8 +12,7 @@ use Rattle.plan.specs.Plan.{Piece, Plan}
 use Rattle.record_test.specs.Exact.{CutterOk, HeadOk, LightOk}
 use Rattle.plan_test.specs.Tests.{cuttersOf}
 
--- a piece with its cutters
-pub record PieceOk (planes : Bool) (materials : ℕ) (o : Piece) : Type 0 where
+pub record PieceOk (planes : Bool) (materials : ℕ) (o : Piece) : Type 0 where  -- a piece with its cutters
   pub own : HeadOk planes materials (o .head)
   pub few : o .head .cutters ≤ cutsMost
   pub cuts : All CutterOk (o .cuts)
@@ -28,8 +27,7 @@ abbrev pub PlacesAre : Bool → ℕ → List Piece → Type 0
 PlacesAre planes before [] = Unit {0}
 PlacesAre planes before (o ∷ os) = PlaceIs planes before (o .head) × PlacesAre planes (before + o .head .cutters) os
 
--- a list of pieces
-pub record PiecesOk (planes : Bool) (materials : ℕ) (os : List Piece) : Type 0 where
+pub record PiecesOk (planes : Bool) (materials : ℕ) (os : List Piece) : Type 0 where  -- a list of pieces
   pub each : All (PieceOk planes materials) os
   pub places : PlacesAre planes 0 os
 
@@ -39,14 +37,12 @@ pub record CountsOk (p : Plan) : Type 0 where
   pub lights : length (p .lights) ≤ sections.lights .most
   pub objects : length (p .objects) ≤ sections.objects .most
 
--- the objects with their cutters
-pub record SoundObjects (p : Plan) : Type 0 where
+pub record SoundObjects (p : Plan) : Type 0 where  -- the objects with their cutters
   pub counts : CountsOk p
   pub objects : PiecesOk false (length (p .materials)) (p .objects)
   pub room : cuttersOf (p .objects) ≤ cutterPlaces
 
--- planes and objects with their cutters
-pub record SoundSolids (p : Plan) : Type 0 where
+pub record SoundSolids (p : Plan) : Type 0 where  -- planes and objects with their cutters
   pub counts : CountsOk p
   pub planes : PiecesOk true (length (p .materials)) (p .planes)
   pub objects : PiecesOk false (length (p .materials)) (p .objects)

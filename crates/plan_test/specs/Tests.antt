@@ -1,8 +1,7 @@
--- "Each public call first tests what it will read, once: a broken plan gets the number that its entry would have got
--- (2 for a bad count or cutter place, 1 for any other word no call leaves)." Definitions only.
--- "Every call that is lent the plan tests its four counts; where one is too high (2) nothing else of the plan is
--- judged. Where a tested piece's number of cutters or its place is bad, or their sum is above 1,024 (2), no cutter's
--- words are judged; the pieces' own words are."
+-- "Each public call first tests what it will read, once: a broken plan gets the number that its entry would have got (2
+-- for a bad count or cutter place, 1 for any other word no call leaves)." "Every call that is lent the plan tests its
+-- four counts; where one is too high (2) nothing else of the plan is judged. Where a tested piece's number of cutters
+-- or its place is bad, or their sum is above 1,024 (2), no cutter's words are judged; the pieces' own words are."
 use Prim.Native.Nat.{ℕ, _+_}
 use mathlib.Core.Bool.{Bool, true, false, cond, _&&_}
 use mathlib.Core.List.{List, [], _∷_}
@@ -23,9 +22,7 @@ countsOk p =
     && (leb (length (p .planes)) (sections.planes .most)
     && (leb (length (p .lights)) (sections.lights .most) && leb (length (p .objects)) (sections.objects .most)))
 
--- ---- cutters and their places
--- how many cutters the pieces have together
-unfoldable pub cuttersOf : List Piece → ℕ
+unfoldable pub cuttersOf : List Piece → ℕ  -- how many cutters the pieces have together
 cuttersOf [] = 0
 cuttersOf (o ∷ os) = o .head .cutters + cuttersOf os
 
@@ -36,13 +33,11 @@ placeOk planes before h =
     leb (h .cutters) cutsMost
     && cond planes (eqb (h .place + (before + h .cutters)) cutterPlaces) (eqb (h .place) before)
 
--- the pieces' places, after pieces with so many cutters
-unfoldable pub placesOk : Bool → ℕ → List Piece → Bool
+unfoldable pub placesOk : Bool → ℕ → List Piece → Bool  -- the pieces' places, after pieces with so many cutters
 placesOk planes before [] = true
 placesOk planes before (o ∷ os) = placeOk planes before (o .head) && placesOk planes (before + o .head .cutters) os
 
--- a list of pieces: what their own words get, whether every place is right, how many places they use
-unfoldable pub tallyOf : Bool → ℕ → List Piece → Tally
+unfoldable pub tallyOf : Bool → ℕ → List Piece → Tally  -- what their own words get, places right, places used
 tallyOf planes materials os =
     record { number = lowestOf (pieceOwn planes materials) os; placed = placesOk planes 0 os; used = cuttersOf os }
 
@@ -52,9 +47,7 @@ planesTally p = tallyOf true (length (p .materials)) (p .planes)
 abbrev pub objectsTally : Plan → Tally
 objectsTally p = tallyOf false (length (p .materials)) (p .objects)
 
--- ---- a plan's number
--- the objects with their cutters
-unfoldable pub objectsNumber : Plan → ℕ
+unfoldable pub objectsNumber : Plan → ℕ  -- the objects with their cutters
 objectsNumber p =
     cond (countsOk p)
     (lower (objectsTally p .number)
@@ -65,8 +58,7 @@ abbrev pub solidsPlaced : Plan → Bool
 solidsPlaced p =
     planesTally p .placed && (objectsTally p .placed && leb (planesTally p .used + objectsTally p .used) cutterPlaces)
 
--- planes and objects with their cutters, and the places that each of the two lists uses
-unfoldable pub solidsOf : Plan → Solids
+unfoldable pub solidsOf : Plan → Solids  -- planes and objects with their cutters, and the places that each list uses
 solidsOf p =
     cond (countsOk p)
     (record {
@@ -78,6 +70,5 @@ solidsOf p =
     })
     (record { number = noRoom; planes = 0; objects = 0 })
 
--- planes and objects with their cutters, and lights
-unfoldable pub litNumber : Plan → ℕ
+unfoldable pub litNumber : Plan → ℕ  -- planes and objects with their cutters, and lights
 litNumber p = cond (countsOk p) (lower (solidsOf p .number) (lowestOf lightNumber (p .lights))) noRoom

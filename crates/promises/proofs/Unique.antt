@@ -5,8 +5,8 @@ use Prim.Native.Nat.{ℕ}
 use lib.Ieee.{Float}
 use Rattle.plan.specs.Plan.{Plan}
 use Rattle.reply.specs.declared.Reply.{Reply}
-use Rattle.bemitondry_entry.specs.Entries.{EntersTable}
-use Rattle.bemitondry_tree.specs.Trees.{BuildLeaves, OfferLeaves}
+use Rattle.bemitondry_entry.specs.Inside.Enters.{EntersTable}
+use Rattle.bemitondry_tree.specs.Inside.Leaves.{BuildLeaves, OfferLeaves}
 use Rattle.wire.specs.Sent.{Sent}
 use Rattle.wire_entry.specs.Entries.{EntrySent, ObjectOn}
 use Rattle.wire_tree.specs.Trees.{BuildOn, OfferOn}

@@ -1,6 +1,6 @@
 -- The numbers that may apply to each exported call, one list to a call: by the lengths of what is lent, by `tree`, by
--- the arguments, the plan, the tree, the lights. Definitions only; that each call sends the lowest of its list are the
--- theorems of proofs/Applies.antt.
+-- the arguments, the plan, the tree, the lights. That each call sends the lowest of its list are the theorems of
+-- proofs/Applies.antt.
 use Prim.Native.Nat.{ℕ, _+_}
 use mathlib.Core.Bool.{Bool, true, false, cond, _&&_, _||_}
 use mathlib.Core.List.{List, [], _∷_, _++_}
@@ -51,8 +51,7 @@ ofPlan need plan args out = shortNumber (length plan) planBytes ∷ ofArgs need 
 abbrev pub ofTables : List ℕ → List ℕ → List ℕ
 ofTables nodes order = shortNumber (length nodes) nodesBytes ∷ shortNumber (length order) orderBytes ∷ []
 
--- by `tree`: another number than 0 and 1; and the tables, where it is 1
-abbrev pub whereUsed : ℕ → ℕ → ℕ
+abbrev pub whereUsed : ℕ → ℕ → ℕ  -- by `tree`: another number than 0 and 1; and the tables, where it is 1
 whereUsed tree n = cond (eqb tree 1) n 0
 
 abbrev pub ofTree : ℕ → List ℕ → List ℕ → List ℕ
@@ -99,8 +98,7 @@ argsCalls =
 abbrev pub argsApply : ArgsCall → List ℕ → ℕ → List ℕ
 argsApply c args out = ofArgs (c .need) args out ++ c .given (lentOf args (c .need))
 
--- `viewer_emitter_hit`: its lights too
-abbrev pub emitterApply : List ℕ → List ℕ → ℕ → List ℕ
+abbrev pub emitterApply : List ℕ → List ℕ → ℕ → List ℕ  -- `viewer_emitter_hit`: its lights too
 emitterApply lights args out =
     let a = lentOf args 28 in
     ofArgs 28 args out
@@ -151,8 +149,7 @@ askCalls =
     }
     ∷ []
 
--- w is the call's table
-abbrev pub askApply
+abbrev pub askApply  -- w is the call's table
     : AskCall → List ℕ → List ℕ → List ℕ → ℕ → List ℕ → ℕ → List ℕ → List ℕ
 askApply c plan nodes order tree args out w =
     ofPlan (c .need) plan args out ++ (ofTree tree nodes order ++ c .on tree w (seen w))

@@ -1,4 +1,4 @@
--- What lent bytes hold: a plan, and a tree for its objects. Definitions only.
+-- What lent bytes hold: a plan, and a tree for its objects.
 use Prim.Native.Nat.{ℕ, _≤_}
 use mathlib.Core.List.{List, []}
 use lib.ListN.{length}
@@ -15,8 +15,7 @@ use Rattle.wire.specs.Lent.{planTable}
 abbrev pub planWith : ℕ → List ℕ → List ℕ → Plan
 planWith need plan args = planIn (planTable need plan args)
 
--- the plan alone: a sound one is the same whatever is lent after it
-abbrev pub planAt : List ℕ → Plan
+abbrev pub planAt : List ℕ → Plan  -- the plan alone: a sound one is the same whatever is lent after it
 planAt plan = planWith 0 plan []
 
 abbrev pub objectCount : List ℕ → ℕ
@@ -41,8 +40,7 @@ abbrev pub AcceptedTree : List ℕ → List ℕ → List ℕ → Tree → Type 0
 AcceptedTree plan nodes order t =
     Accepted (nodeWords nodes) (nodeFloats nodes) (orderWords order) (boxesOf (planAt plan)) t
 
--- the bytes meet the tree rules: with no objects any do
-abbrev pub TreeRules : List ℕ → List ℕ → List ℕ → Type 0
+abbrev pub TreeRules : List ℕ → List ℕ → List ℕ → Type 0  -- the bytes meet the tree rules: with no objects any do
 TreeRules plan nodes order =
     MeetsRules (nodeWords nodes) (nodeFloats nodes) (orderWords order) (boxesOf (planAt plan))
 

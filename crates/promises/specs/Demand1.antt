@@ -15,7 +15,8 @@ use Rattle.refusals.specs.Ranges.{upTo, withinUpTo}
 use Rattle.plan.specs.Sections.{materials, lights, cutsMost, cutterPlaces, argsRow}
 use Rattle.plan.specs.declared.Material.{Material}
 use Rattle.plan.specs.Records.{materialAt, lightAt, headAt}
-use Rattle.plan.specs.Plan.{Plan, Piece, cutsBy, seen, planIn, withMaterial, withLight}
+use Rattle.plan.specs.Plan.{Plan, Piece, cutsBy, seen, planIn}
+use Rattle.plan.specs.With.{withMaterial, withLight}
 use Rattle.plan_test.specs.Tests.{countsOk, cuttersOf, objectsNumber, solidsOf, litNumber}
 use Rattle.record_test.specs.Exact.{CutterOk, HeadOk, LightOk}
 use Rattle.plan_test.specs.Exact.{CountsOk, SoundSolids, SoundLit}
@@ -100,8 +101,7 @@ pub data Run : List ℕ → Type 0 where
   object : {plan : List ℕ} (nodes order args out : List ℕ) (n : ℕ) (plan′ nodes′ order′ out′ : List ℕ)
       → Run plan → ObjectSent plan nodes order args out n plan′ nodes′ order′ out′ → Run plan′
 
--- what every test of a plan that any call makes gets
-pub record Passes (p : Plan) : Type 0 where
+pub record Passes (p : Plan) : Type 0 where  -- what every test of a plan that any call makes gets
   pub counts-pass : countsOk p ≡ true
   pub objects-pass : objectsNumber p ≡ 0
   pub solids-pass : solidsOf p .number ≡ 0
@@ -138,8 +138,7 @@ pub record DemandOne : Type 0 where
       × (Replied (length (planIn w .objects)) out n out′
       × (Dropped n nodesBytes nodes nodes′ × Dropped n orderBytes order order′))
   pub zero-bytes : (k : ℕ) → planAt (replicate k 0) ≡ emptyPlan
-  -- a sound plan is the same whatever is lent after it
-  pub alone : (need : ℕ) (plan args : List ℕ)
+  pub alone : (need : ℕ) (plan args : List ℕ)  -- a sound plan is the same whatever is lent after it
       → SoundSolids (planAt plan) → planWith need plan args ≡ planAt plan
   pub runs-pass : {plan : List ℕ} → Run plan
       → SoundLit (planAt plan) × ((need : ℕ) (args : List ℕ) → Passes (planWith need plan args))

@@ -73,15 +73,12 @@ pub record Searches (w : List ℕ) (p : Vec3) (bound : DistHit) (a : Searched) :
   pub each : (k : ℕ) → k < countOf objects w
       → (i : ℕ) × (i < countOf objects w) × (wordOf (orderOf w) i ≡ k)
       × (In i (demand .walk .seen) ⊎ Over (orderOf w) w (seen w) p (a .hit .d) (demand .walk .passed) i)
-  -- and none is evaluated twice
-  pub once : Distinct (map (wordOf (orderOf w)) (demand .walk .seen))
+  pub once : Distinct (map (wordOf (orderOf w)) (demand .walk .seen))  -- and none is evaluated twice
 
--- with no objects the bound comes back
-abbrev pub Answers : List ℕ → Vec3 → DistHit → Searched → Type 0
+abbrev pub Answers : List ℕ → Vec3 → DistHit → Searched → Type 0  -- with no objects the bound comes back
 Answers w p bound a = ((countOf objects w ≡ 0) × (a ≡ searched bound 0 0 true)) ⊎ Searches w p bound a
 
--- the hit at every point is that of such a search, from the nearest plane
-abbrev pub FieldAnswers : List ℕ → Type 0
+abbrev pub FieldAnswers : List ℕ → Type 0  -- the hit at every point is that of such a search, from the nearest plane
 FieldAnswers w =
     (p : Vec3) → (a : Searched)
     × (fieldBy 1 w (seen w) p ≡ a .hit) × Answers w p (nearest (planIn w .planes) p nothing) a

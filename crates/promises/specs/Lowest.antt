@@ -12,8 +12,7 @@ unfoldable pub lowestIn : List ℕ → ℕ
 lowestIn [] = 0
 lowestIn (n ∷ ns) = lower n (lowestIn ns)
 
--- no number of the list that applies is below n
-abbrev pub Least : List ℕ → ℕ → Type 0
+abbrev pub Least : List ℕ → ℕ → Type 0  -- no number of the list that applies is below n
 Least ns n = All (λ (m : ℕ). 0 < m → n ≤ m) ns
 
 -- none applies and n is 0; or n is one that applies, and none that applies is lower

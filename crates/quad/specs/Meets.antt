@@ -1,5 +1,5 @@
 -- Where a ray meets a quad (the source's `intersect_quad`), and the quad's point nearest to another
--- (`closest_on_quad`). Definitions only.
+-- (`closest_on_quad`).
 use mathlib.Core.Bool.{Bool, cond, _&&_}
 use lib.Ieee.{Float, lt}
 use Rattle.scalar.specs.F32.{_⊘_, f0, f1, f1e-4, f1e-9}
@@ -13,8 +13,7 @@ use Rattle.quad.specs.declared.Crossing.{Crossing}
 use Rattle.quad.specs.declared.Crossing.the-variants.{Apart, At}
 use Rattle.quad.specs.Quad.{edge1, edge2, spanned}
 
--- how far d goes along the edge e, from 0 to 1
-abbrev pub along : Vec3 → Vec3 → Float
+abbrev pub along : Vec3 → Vec3 → Float  -- how far d goes along the edge e, from 0 to 1
 along d e = vdot d e ⊘ vdot e e
 
 unfoldable pub within : Vec3 → Vec3 → Bool
@@ -26,8 +25,7 @@ insideOf q p t = cond (within p (edge1 q) && within p (edge2 q)) (At t) Apart
 unfoldable pub aheadOf : Quad → Vec3 → Vec3 → Float → Crossing
 aheadOf q ro rd t = cond (lt t f1e-4) Apart (insideOf q (vsub (vadd ro (vscale rd t)) (q .v0)) t)
 
--- a ray along the quad's plane meets it nowhere
-unfoldable pub intersectOf : Quad → Vec3 → Vec3 → Crossing
+unfoldable pub intersectOf : Quad → Vec3 → Vec3 → Crossing  -- a ray along the quad's plane meets it nowhere
 intersectOf q ro rd =
     cond (lt (absOf (vdot (spanned q) rd)) f1e-9) Apart
     (aheadOf q ro rd (vdot (vsub (q .v0) ro) (spanned q) ⊘ vdot (spanned q) rd))

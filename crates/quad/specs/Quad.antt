@@ -1,13 +1,12 @@
 -- Centre, normal and area of four corners, as the source's `QuadLight` has them: "`center` sums left to right, then
--- times 0.25; `area`'s second triangle starts at corner 2". Definitions only.
+-- times 0.25; `area`'s second triangle starts at corner 2".
 use lib.Ieee.{Float}
 use Rattle.scalar.specs.F32.{_⊕_, _⊗_, fhalf, fquarter}
 use Rattle.vec.specs.declared.Vec3.{Vec3}
 use Rattle.vec.specs.Vec.{vadd, vsub, vscale, vcross, vlength, vnormalize}
 use Rattle.quad.specs.declared.Quad.{Quad}
 
--- the two edges at corner 0, and their cross product
-abbrev pub edge1 : Quad → Vec3
+abbrev pub edge1 : Quad → Vec3  -- the two edges at corner 0, and their cross product
 edge1 q = vsub (q .v1) (q .v0)
 
 abbrev pub edge2 : Quad → Vec3

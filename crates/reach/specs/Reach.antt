@@ -1,4 +1,4 @@
--- Whether a panel reaches a point of a surface, and how: the source's `direct` up to its visibility. Definitions only.
+-- Whether a panel reaches a point of a surface, and how: the source's `direct` up to its visibility.
 use mathlib.Core.Bool.{cond}
 use lib.Ieee.{Float, le}
 use Rattle.scalar.specs.F32.{_⊖_, _⊗_, _⊘_, f96, f1·25, f1·5, f0·015, f0·05, f3e-3, f1e-4, f1e-6}
@@ -16,15 +16,13 @@ use Rattle.reach.specs.declared.Reach.{Reach}
 use Rattle.reach.specs.declared.Reach.the-variants.{Shut, Open}
 use Rattle.panel.specs.Panels.{culledOf, radiusOf}
 
--- a point of a surface with its normal, and the frame about that
-unfoldable pub siteOf : Vec3 → Vec3 → Site
+unfoldable pub siteOf : Vec3 → Vec3 → Site  -- a point of a surface with its normal, and the frame about that
 siteOf p n = record { p = p; n = n; frame = frameOf n }
 
 abbrev pub toLight : Site → Panel → Vec3
 toLight s a = vsub (a .center) (s .p)
 
--- its share of the hemisphere
-abbrev pub shareOf : Site → Panel → Float
+abbrev pub shareOf : Site → Panel → Float  -- its share of the hemisphere
 shareOf s a = formFactorOf (toLocalOf (a .quad) (s .p) (s .frame) (s .n))
 
 -- one cone toward the light, from just off the surface to more than a radius short of the panel

@@ -1,4 +1,4 @@
--- What a record is where an entry takes it: the statement that the tests of records are held to. Definitions only.
+-- What a record is where an entry takes it: the statement that the tests of records are held to.
 use Prim.Native.Nat.{ℕ, _≤_, _<_}
 use mathlib.Core.Path.{_≡_}
 use mathlib.Core.Bool.{Bool, false}
@@ -12,8 +12,7 @@ use Rattle.plan.specs.declared.Cutter.{Cutter}
 use Rattle.plan.specs.declared.Head.{Head}
 use Rattle.record_test.specs.Numbers.{dark}
 
--- a primitive that an entry takes
-pub record PrimOk (kind : ℕ) (s : Shape) : Type 0 where
+pub record PrimOk (kind : ℕ) (s : Shape) : Type 0 where  -- a primitive that an entry takes
   pub known : kind ≤ 6
   pub ranges : T (shapeOk s)
   pub extent : flat s ≡ false
@@ -28,8 +27,7 @@ pub record HeadOk (planes : Bool) (materials : ℕ) (h : Head) : Type 0 where
   pub material : h .material < materials
   pub list : eqb (h .kind) 2 ≡ planes
 
--- a light that an entry takes
-pub record LightOk (l : QuadLight) : Type 0 where
+pub record LightOk (l : QuadLight) : Type 0 where  -- a light that an entry takes
   pub v0 : T (coordinates (l .v0))
   pub v1 : T (coordinates (l .v1))
   pub v2 : T (coordinates (l .v2))

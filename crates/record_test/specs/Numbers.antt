@@ -1,4 +1,4 @@
--- What a record gets wherever it is given: a material, a light, a cutter, a piece's own words. Definitions only.
+-- What a record gets wherever it is given: a material, a light, a cutter, a piece's own words.
 use Prim.Native.Nat.{ℕ}
 use mathlib.Core.Bool.{Bool, not, _&&_, _||_, Bool·beq}
 use lib.Dec.{ltb, eqb}
@@ -15,19 +15,16 @@ use Rattle.plan.specs.declared.Cutter.{Cutter}
 use Rattle.plan.specs.declared.Head.{Head}
 use Rattle.plan.specs.Plan.{Cuts, Piece}
 
--- "albedo, roughness, metallic 0 to 1"
-unfoldable pub materialNumber : Material → ℕ
+unfoldable pub materialNumber : Material → ℕ  -- "albedo, roughness, metallic 0 to 1"
 materialNumber m = unless badNumber (withinUpTo (m .albedo) f1 && (upTo (m .roughness) f1 && upTo (m .metallic) f1))
 
--- "a light's `e1.dot(e1)`, `e2.dot(e2)` or length of `e1` x `e2` is 0"
-unfoldable pub dark : Vec3 → Vec3 → Bool
+unfoldable pub dark : Vec3 → Vec3 → Bool  -- "a light's `e1.dot(e1)`, `e2.dot(e2)` or length of `e1` x `e2` is 0"
 dark e1 e2 = noLength e1 || (noLength e2 || eq (vlength (vcross e1 e2)) f0)
 
 abbrev pub cornersOk : QuadLight → Bool
 cornersOk l = coordinates (l .v0) && (coordinates (l .v1) && (coordinates (l .v2) && coordinates (l .v3)))
 
--- "emission 0 to 10,000"
-unfoldable pub lightNumber : QuadLight → ℕ
+unfoldable pub lightNumber : QuadLight → ℕ  -- "emission 0 to 10,000"
 lightNumber l =
     lower (unless badNumber (cornersOk l && withinUpTo (l .emit) far))
     (unless noExtent (not (dark (vsub (l .v1) (l .v0)) (vsub (l .v3) (l .v0)))))
@@ -38,16 +35,13 @@ cutterNumber c = primNumber (c .kind) (c .shape)
 unfoldable pub cutsNumber : Cuts → ℕ
 cutsNumber cs = lowestOf cutterNumber cs
 
--- a piece's own words, in the list of planes or in that of objects: 1 for kind, numbers and blend, 3, 4, and 5 for the
--- wrong list
-unfoldable pub ownNumber : Bool → ℕ → Head → ℕ
+unfoldable pub ownNumber : Bool → ℕ → Head → ℕ  -- 1 for kind, numbers and blend; 3; 4; 5 for the wrong list
 ownNumber planes materials h =
     lower (lower (primNumber (h .kind) (h .shape)) (unless badNumber (radius (h .blend))))
     (lower (unless noMaterial (ltb (h .material) materials)) (unless wrongList (Bool·beq (eqb (h .kind) 2) planes)))
 
--- the same of a piece, and what its cutters get
 unfoldable pub pieceOwn : Bool → ℕ → Piece → ℕ
 pieceOwn planes materials o = ownNumber planes materials (o .head)
 
-unfoldable pub pieceCuts : Piece → ℕ
+unfoldable pub pieceCuts : Piece → ℕ  -- what its cutters get
 pieceCuts o = cutsNumber (o .cuts)

@@ -1,5 +1,4 @@
--- "Kinds count 0 to 6, and words stand, in the source's order", and what a primitive's numbers must be. Definitions
--- only.
+-- "Kinds count 0 to 6, and words stand, in the source's order", and what a primitive's numbers must be.
 use Prim.Native.Nat.{ℕ}
 use mathlib.Core.Bool.{Bool, true, false, not, cond, _&&_}
 use lib.Dec.{leb, eqb}
@@ -13,8 +12,7 @@ use Rattle.sdf.specs.declared.Shape.the-variants.{Sphere, RoundBox, Plane, Caps
 use Rattle.refusals.specs.Refusals.{badNumber, noExtent, unless, lower}
 use Rattle.refusals.specs.Ranges.{far, steep, within, withinUpTo, coordinates, radius}
 
--- a kind and eight floats: a the first three, b the next three, then u and v. sphere c, r; round box c, b, r; plane n,
--- h; capsule a, b, r; torus c, major, minor; cylinder a, b, r; cone a, b, ra, rb
+-- a kind and eight floats: a the first three, b the next three, then u and v
 unfoldable pub shapeOf : ℕ → Vec3 → Vec3 → Float → Float → Shape
 shapeOf k a b u v =
     cond (eqb k 0) (Sphere a (b .x))
@@ -37,8 +35,7 @@ shapeOk (Cone a b ra rb) = coordinates a && (coordinates b && (radius ra && radi
 unfoldable pub noLength : Vec3 → Bool
 noLength v = eq (vdot v v) f0
 
--- a capsule whose computed `ba.dot(ba)` is 0
-unfoldable pub flat : Shape → Bool
+unfoldable pub flat : Shape → Bool  -- a capsule whose computed `ba.dot(ba)` is 0
 flat (Sphere c r) = false
 flat (RoundBox c b r) = false
 flat (Plane n h) = false
@@ -47,6 +44,5 @@ flat (Torus c major minor) = false
 flat (Cylinder a b r) = false
 flat (Cone a b ra rb) = false
 
--- what a primitive gets wherever it is given
-unfoldable pub primNumber : ℕ → Shape → ℕ
+unfoldable pub primNumber : ℕ → Shape → ℕ  -- what a primitive gets wherever it is given
 primNumber kind s = lower (unless badNumber (leb kind 6 && shapeOk s)) (unless noExtent (not (flat s)))

@@ -1,10 +1,9 @@
 -- "`max` of two numbers takes the first if it is greater, else the second; one that is not a number yields to the
--- other. `min` likewise; `clamp` as Rust's." Definitions only.
+-- other. `min` likewise; `clamp` as Rust's."
 use mathlib.Core.Bool.{cond}
 use lib.Ieee.{Float, lt, eq}
 
--- only a NaN differs from itself
-unfoldable pub fmax : Float → Float → Float
+unfoldable pub fmax : Float → Float → Float  -- only a NaN differs from itself
 fmax a b = cond (lt b a) a (cond (eq b b) b a)
 
 unfoldable pub fmin : Float → Float → Float

@@ -1,6 +1,5 @@
 -- "f32, each operation rounded once, never fused." The four operations as operators, and the constants by their bits,
--- each with its decimal. Definitions only; that each constant is the f32 nearest to its decimal is a theorem of
--- proofs/Nearest.antt.
+-- each with its decimal. That each constant is the f32 nearest to its decimal is a theorem of proofs/Nearest.antt.
 use lib.Ieee.{Float, binary32, add, sub, mul, div, ofBits}
 
 infixl 60 _⊕_
@@ -22,19 +21,15 @@ a ⊘ b = div binary32 a b
 abbrev pub f0 : Float
 f0 = ofBits binary32 0
 
--- 0.5
-abbrev pub fhalf : Float
+abbrev pub fhalf : Float  -- 0.5
 fhalf = ofBits binary32 0x3f00_0000
 
 abbrev pub f1 : Float
 f1 = ofBits binary32 0x3f80_0000
 
--- pi
-abbrev pub fpi : Float
+abbrev pub fpi : Float  -- pi
 fpi = ofBits binary32 0x4049_0fdb
 
--- ---- decimals of the source
--- 2, 12, 96
 abbrev pub f2 : Float
 f2 = ofBits binary32 0x4000_0000
 
@@ -44,8 +39,7 @@ f12 = ofBits binary32 0x4140_0000
 abbrev pub f96 : Float
 f96 = ofBits binary32 0x42c0_0000
 
--- 0.25, 1.25, 1.5
-abbrev pub fquarter : Float
+abbrev pub fquarter : Float  -- 0.25
 fquarter = ofBits binary32 0x3e80_0000
 
 abbrev pub f1·25 : Float
@@ -54,7 +48,6 @@ f1·25 = ofBits binary32 0x3fa0_0000
 abbrev pub f1·5 : Float
 f1·5 = ofBits binary32 0x3fc0_0000
 
--- 0.006, 0.015, 0.04, 0.05, 0.12
 abbrev pub f0·006 : Float
 f0·006 = ofBits binary32 0x3bc4_9ba6
 
@@ -70,11 +63,9 @@ f0·05 = ofBits binary32 0x3d4c_cccd
 abbrev pub f0·12 : Float
 f0·12 = ofBits binary32 0x3df5_c28f
 
--- 0.15915494: one by two pi
-abbrev pub fturn : Float
+abbrev pub fturn : Float  -- 0.15915494: one by two pi
 fturn = ofBits binary32 0x3e22_f983
 
--- 1e20, 3e-3, 1e-3, 1e-4, 1e-6, 1e-9, 1e-12
 abbrev pub f1e20 : Float
 f1e20 = ofBits binary32 0x60ad_78ec
 

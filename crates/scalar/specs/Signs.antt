@@ -1,5 +1,4 @@
--- Magnitude and sign, as Rust's `abs` and `signum`: a NaN keeps being one, and minus zero has the sign of what is below
--- zero. Definitions only.
+-- Magnitude and sign, as Rust's `abs` and `signum`: a NaN stays one, minus zero has the sign of what is below zero.
 use Prim.Native.Nat.{ℕ}
 use mathlib.Core.Bool.{Bool, true, false}
 use lib.IntN.{pos}
@@ -10,8 +9,7 @@ absOf nan = nan
 absOf (inf s) = inf false
 absOf (fin s m e) = fin false m e
 
--- 1 with a sign
-abbrev pub unit : Bool → Float
+abbrev pub unit : Bool → Float  -- 1 with a sign
 unit s = fin s 1 (pos 0)
 
 unfoldable pub signumOf : Float → Float

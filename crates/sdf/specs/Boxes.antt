@@ -1,5 +1,4 @@
--- "An object's box is `bounds()` widened by blend, its centre half the sum of the corners. Box distance is
--- `aabb_dist`." Definitions only.
+-- "An object's box is `bounds()` widened by blend, its centre half the sum of the corners." Box distance: `aabb_dist`.
 use lib.Ieee.{Float}
 use Rattle.scalar.specs.F32.{_⊕_, f0, fhalf}
 use Rattle.scalar.specs.Extremes.{fmax}
@@ -29,8 +28,7 @@ boundsOf (Cone a b ra rb) = Within (around a b (fmax ra rb))
 unfoldable pub widened : Aabb → Float → Aabb
 widened b e = record { lo = vsub (b .lo) (vsplat e); hi = vadd (b .hi) (vsplat e) }
 
--- no object is a plane: for one the zero box stands in
-abbrev pub boxIn : Bounds → Float → Aabb
+abbrev pub boxIn : Bounds → Float → Aabb  -- no object is a plane: for one the zero box stands in
 boxIn (Within b) e = widened b e
 boxIn Unbounded e = record { lo = vsplat f0; hi = vsplat f0 }
 

@@ -1,5 +1,4 @@
--- "The seven kinds are source document 002's formulas": sdf.rs, each operation in the order written there. Definitions
--- only.
+-- "The seven kinds are source document 002's formulas": sdf.rs, each operation in the order written there.
 use mathlib.Core.Bool.{cond, _&&_}
 use lib.Ieee.{Float, neg, lt}
 use Rattle.root.specs.Root.{rootOf}
@@ -17,8 +16,7 @@ tiny = f1e-12
 unfoldable pub sphere : Vec3 → Float → Vec3 → Float
 sphere c r p = vlength (vsub p c) ⊖ r
 
--- q is |p - c| - (b - r)
-abbrev pub roundBoxAt : Vec3 → Float → Float
+abbrev pub roundBoxAt : Vec3 → Float → Float  -- q is |p - c| - (b - r)
 roundBoxAt q r = vlength (vmax q (vsplat f0)) ⊕ fmin (fmax (q .x) (fmax (q .y) (q .z))) f0 ⊖ r
 
 unfoldable pub roundBox : Vec3 → Vec3 → Float → Vec3 → Float
@@ -39,7 +37,6 @@ torusAt q major minor = let xz = rootOf (q .x ⊗ q .x ⊕ q .z ⊗ q .z) ⊖ ma
 unfoldable pub torus : Vec3 → Float → Float → Vec3 → Float
 torus c major minor p = torusAt (vsub p c) major minor
 
--- ---- cylinder
 unfoldable pub beyond : Float → Float → Float
 beyond x square = cond (lt f0 x) square f0
 
@@ -63,7 +60,6 @@ cylinder a b r p =
     let baba = vdot ba ba in
     cond (lt baba tiny) (sphere a r p) (cylinderBody (vsub p a) ba baba r)
 
--- ---- cone
 unfoldable pub coneEnd : Float → Float → Float → Float
 coneEnd paba ra rb = cond (lt paba fhalf) ra rb
 
@@ -94,7 +90,6 @@ cone a b ra rb p =
     let baba = vdot ba ba in
     cond (lt baba tiny) (sphere a (fmax ra rb) p) (coneBody (vsub p a) ba baba ra rb)
 
--- ---- by cases
 unfoldable pub distOf : Shape → Vec3 → Float
 distOf (Sphere c r) p = sphere c r p
 distOf (RoundBox c b r) p = roundBox c b r p

@@ -1,5 +1,5 @@
 -- "`direct` and `direct_diffuse` follow source document 003, at most 96 evaluations a light." Over any field and any
--- list of lights; counts are summed. Definitions only.
+-- list of lights; counts are summed.
 use Prim.Native.Nat.{ℕ, _+_, min}
 use mathlib.Core.List.{List, [], _∷_}
 use Rattle.scalar.specs.F32.{_⊗_, f0}
@@ -27,7 +27,7 @@ abbrev pub litBy : (Sight → Vec3) → Vec3 → Reach → Lit
 litBy shine out (Shut n) = record { light = out; count = n }
 litBy shine out (Open s n) = record { light = shine s; count = n }
 
--- ---- one light, added to `out`, and its evaluations
+-- one light, added to `out`, and its evaluations
 unfoldable pub diffuseStep : Field → Site → Vec3 → Vec3 → QuadLight → Lit
 diffuseStep field s albedo out l =
     litBy (λ (g : Sight). vadd out (vscale (vmul albedo (l .emit)) (g .ff ⊗ g .vis))) out (reachOf field s (panelOf l))
@@ -42,7 +42,7 @@ shone s w a out g =
 unfoldable pub directStep : Field → Site → View → Vec3 → QuadLight → Lit
 directStep field s w out l = litBy (shone s w (panelOf l) out) out (reachOf field s (panelOf l))
 
--- ---- every light in order, after `made` evaluations
+-- every light in order, after `made` evaluations
 unfoldable pub lightsBy : (Vec3 → QuadLight → Lit) → List QuadLight → Vec3 → ℕ → Lit
 lightsBy step [] out made = record { light = out; count = made }
 lightsBy step (l ∷ ls) out made = lightsBy step ls (step out l .light) (made + step out l .count)
@@ -53,6 +53,5 @@ directDiffuseOf field ls p n albedo = lightsBy (diffuseStep field (siteOf p n) a
 unfoldable pub directOf : Field → List QuadLight → Vec3 → Vec3 → Vec3 → Material → Lit
 directOf field ls p n v m = lightsBy (directStep field (siteOf p n) (viewOf n v m)) ls (vsplat f0) 0
 
--- how many lights the code goes through: no more than a plan may have
-unfoldable pub panelsIn : List ℕ → ℕ
+unfoldable pub panelsIn : List ℕ → ℕ  -- how many lights the code goes through: no more than a plan may have
 panelsIn w = min (countOf lights w) (lights .most)

@@ -1,4 +1,4 @@
--- The points that a march evaluates, in order: what its answer rests on, and its count their number. Definitions only.
+-- The points that a march evaluates, in order: what its answer rests on, and its count their number.
 use Prim.Native.Nat.{ℕ, zero, suc}
 use mathlib.Core.Bool.{cond}
 use mathlib.Core.List.{List, [], _∷_}

@@ -1,5 +1,5 @@
 -- "`soft_shadow`: at most 96; 0 below 1e-4 of distance or 1e-3 of visibility; when receding, y = 0 and d = h;
--- visibility always lies in 0 to 1." Over any field. Definitions only.
+-- visibility always lies in 0 to 1." Over any field.
 use Prim.Native.Nat.{ℕ, zero, suc}
 use mathlib.Core.Bool.{cond}
 use lib.Ieee.{Float, lt}
@@ -16,8 +16,7 @@ use Rattle.trace.specs.Trace.{Field, pointAt}
 abbrev pub shadowMost : ℕ
 shadowMost = 96
 
--- where the segment between the distances ph and h came nearest: y back, d near
-pub record Gap : Type 0 where
+pub record Gap : Type 0 where  -- where the segment between the distances ph and h came nearest: y back, d near
   pub y : Float
   pub d : Float
 
@@ -30,8 +29,7 @@ gapOf h ph =
     (record { y = backOf h ph; d = rootOf (fmax (h ⊗ h ⊖ backOf h ph ⊗ backOf h ph) f0) })
     (record { y = f0; d = h })
 
--- what is left of the light after the distance h
-unfoldable pub darkerOf : Cone → Float → Float → Float
+unfoldable pub darkerOf : Cone → Float → Float → Float  -- what is left of the light after the distance h
 darkerOf c h k = let g = gapOf h (c .ph) in fmin (c .res) (k ⊗ g .d ⊘ fmax (c .t ⊖ g .y) f1e-4)
 
 unfoldable pub passedOf : Cone → Float → Float → Passed
@@ -43,8 +41,7 @@ passedOf c h k =
 unfoldable pub seenOf : Float → ℕ → Shadow
 seenOf res made = record { vis = clampOf res f0 f1; count = made }
 
--- by an evaluation's outcome
-unfoldable pub pass : {A : Type 0} → A → (Cone → A) → Passed → A
+unfoldable pub pass : {A : Type 0} → A → (Cone → A) → Passed → A  -- by an evaluation's outcome
 pass dark going Dark = dark
 pass dark going (Going c) = going c
 

@@ -1,5 +1,5 @@
 -- "`trace`: at most 128 evaluations, hit when the distance is below 1e-4 times max(t, 1). The count is evaluations
--- made." Over any field, a function from points to nearest hits. Definitions only.
+-- made." Over any field, a function from points to nearest hits.
 use Prim.Native.Nat.{ℕ, zero, suc}
 use mathlib.Core.Bool.{cond}
 use lib.Ieee.{Float, lt}
@@ -35,8 +35,7 @@ steppedOf h p t tmax =
 abbrev pub stepAt : Field → Vec3 → Vec3 → Float → Float → Step
 stepAt field ro rd tmax t = steppedOf (field (pointAt ro rd t)) (pointAt ro rd t) t tmax
 
--- by an evaluation's outcome
-unfoldable pub follow : {A : Type 0} → (Hit → A) → A → (Float → A) → Step → A
+unfoldable pub follow : {A : Type 0} → (Hit → A) → A → (Float → A) → Step → A  -- by an evaluation's outcome
 follow found past on (Found h) = found h
 follow found past on Past = past
 follow found past on (On t) = on t

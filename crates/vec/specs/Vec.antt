@@ -1,5 +1,4 @@
--- "`dot` is (xx + yy) + zz, length is the root of `dot(self)`, normalise multiplies by 1/length, lerp is as in the
--- pinned version." Definitions only.
+-- "`dot` is (xx + yy) + zz, length is the root of `dot(self)`, normalise multiplies by 1/length", lerp is as pinned.
 use Prim.Native.Nat.{ℕ}
 use mathlib.Core.Bool.{cond}
 use lib.Dec.{eqb}
@@ -10,8 +9,7 @@ use Rattle.scalar.specs.Extremes.{fmin, fmax}
 use Rattle.scalar.specs.Signs.{absOf}
 use Rattle.vec.specs.declared.Vec3.{Vec3}
 
--- a function of one, or of two, floats at each component
-abbrev pub each : (Float → Float) → Vec3 → Vec3
+abbrev pub each : (Float → Float) → Vec3 → Vec3  -- a function at each component
 each f a = record { x = f (a .x); y = f (a .y); z = f (a .z) }
 
 abbrev pub both : (Float → Float → Float) → Vec3 → Vec3 → Vec3
@@ -50,8 +48,7 @@ vlength a = rootOf (vdot a a)
 unfoldable pub vnormalize : Vec3 → Vec3
 vnormalize a = vscale a (f1 ⊘ vlength a)
 
--- a * (1 - s) + b * s
-unfoldable pub vlerp : Vec3 → Vec3 → Float → Vec3
+unfoldable pub vlerp : Vec3 → Vec3 → Float → Vec3  -- a * (1 - s) + b * s
 vlerp a b s = vadd (vscale a (f1 ⊖ s)) (vscale b s)
 
 unfoldable pub vmin : Vec3 → Vec3 → Vec3

@@ -1,4 +1,4 @@
--- What each call replies to the bytes that are lent. Definitions only.
+-- What each call replies to the bytes that are lent; out is the length of `out`.
 use Prim.Native.Nat.{ℕ}
 use mathlib.Core.List.{List}
 use lib.ListN.{length}
@@ -16,15 +16,13 @@ use Rattle.bemitondry_values.specs.Values.{rootReply, acosReply, primDistReply,
 use Rattle.bemitondry_emitter.specs.Emitter.{emitterReply}
 use Rattle.bemitondry_values.specs.Light.{formFactorReply, fresnelReply, f0Reply, diffuseAlbedoReply}
 
--- ---- calls on arguments alone; out is the length of `out`
 unfoldable pub rootLent : List ℕ → ℕ → Reply
 rootLent args out = rootReply (argsBefore 4 (length args) out) (givenFloat (lentOf args 4) 0)
 
 unfoldable pub acosLent : List ℕ → ℕ → Reply
 acosLent args out = acosReply (argsBefore 4 (length args) out) (givenFloat (lentOf args 4) 0)
 
--- a primitive: its kind, then its eight words
-abbrev pub givenShape : List ℕ → Shape
+abbrev pub givenShape : List ℕ → Shape  -- a primitive: its kind, then its eight words
 givenShape a = shapeOf (wordAt a 0) (givenVec a 1) (givenVec a 4) (givenFloat a 7) (givenFloat a 8)
 
 unfoldable pub primDistLent : List ℕ → ℕ → Reply
@@ -36,7 +34,6 @@ unfoldable pub primBoundsLent : List ℕ → ℕ → Reply
 primBoundsLent args out =
     primBoundsReply (argsBefore 36 (length args) out) (wordAt (lentOf args 36) 0) (givenShape (lentOf args 36))
 
--- four corners, and a material
 abbrev pub givenQuad : List ℕ → Quad
 givenQuad a = record { v0 = givenVec a 0; v1 = givenVec a 3; v2 = givenVec a 6; v3 = givenVec a 9 }
 
@@ -56,14 +53,12 @@ f0Lent args out = f0Reply (argsBefore 20 (length args) out) (givenMaterial (lent
 unfoldable pub diffuseAlbedoLent : List ℕ → ℕ → Reply
 diffuseAlbedoLent args out = diffuseAlbedoReply (argsBefore 20 (length args) out) (givenMaterial (lentOf args 20))
 
--- lights are records of fifteen words
-unfoldable pub emitterLent : List ℕ → List ℕ → ℕ → Reply
+unfoldable pub emitterLent : List ℕ → List ℕ → ℕ → Reply  -- lights are records of fifteen words
 emitterLent lights args out =
     emitterReply (argsBefore 28 (length args) out) lights (givenVec (lentOf args 28) 0) (givenVec (lentOf args 28) 3)
     (givenFloat (lentOf args 28) 6)
 
--- ---- calls that ask by the tree or by the list: what applies before, `tree`, the table as words and as floats
-abbrev pub Ask : Type 0
+abbrev pub Ask : Type 0  -- what applies before, `tree`, the table as words and as floats
 Ask = ℕ → ℕ → List ℕ → List Float → Reply
 
 abbrev pub askReply : Ask → ℕ → List ℕ → List ℕ → List ℕ → ℕ → List ℕ → ℕ → Reply

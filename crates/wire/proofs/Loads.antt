@@ -10,7 +10,8 @@ use borrow.Author.Tests.{le-leb}
 use lib.Ieee.{Float}
 use Rattle.words.specs.Words.{wordAt, wordsOf, floatsOf}
 use Rattle.words.proofs.Runs.{length-from}
-use Rattle.wire.specs.Lent.{loadedPart, tableOf}
+use Rattle.wire.specs.Lent.{tableOf}
+use Rattle.wire.specs.Inside.Parts.{loadedPart}
 
 part-length : {A : Type 0} (l : List A) (k n : ℕ) → k + n ≤ length l → length (take n (drop k l)) ≡ n
 part-length l k n h = length-take-le n (drop k l) (omega (arith, length-drop k l))

@@ -1,9 +1,8 @@
--- Lent tables. "An `args` shorter than the call reads is a short table (2) whose words are not judged." Definitions
--- only.
-use Prim.Native.Nat.{ℕ, _+_, _-_}
-use mathlib.Core.Bool.{Bool, cond, _&&_}
+-- Lent tables. "An `args` shorter than the call reads is a short table (2) whose words are not judged."
+use Prim.Native.Nat.{ℕ, _+_}
+use mathlib.Core.Bool.{cond}
 use mathlib.Core.List.{List, [], _++_}
-use lib.ListN.{length, take, drop}
+use lib.ListN.{length}
 use lib.Dec.{leb, eqb}
 use lib.Ieee.{Float, binary32, ofBits}
 use Rattle.vec.specs.declared.Vec3.{Vec3}
@@ -11,12 +10,10 @@ use Rattle.words.specs.Words.{wordAt, wordsOf}
 use Rattle.plan.specs.Sections.{planWords, argsWords, nodesWords, orderPlaces}
 use Rattle.wire_lengths.specs.Lengths.{planBytes, nodesBytes, orderBytes}
 
--- a short table stands as all zero: none of its bytes are there
-unfoldable pub lentOf : List ℕ → ℕ → List ℕ
+unfoldable pub lentOf : List ℕ → ℕ → List ℕ  -- a short table stands as all zero: none of its bytes are there
 lentOf t full = cond (leb full (length t)) t []
 
--- "`nodes` and `order` are looked at only where the tree is used": where `tree` is 1
-unfoldable pub usedOf : ℕ → List ℕ → ℕ → List ℕ
+unfoldable pub usedOf : ℕ → List ℕ → ℕ → List ℕ  -- "looked at only where the tree is used": where `tree` is 1
 usedOf tree t full = cond (eqb tree 1) (lentOf t full) []
 
 unfoldable pub givenFloat : List ℕ → ℕ → Float
@@ -25,22 +22,15 @@ givenFloat t i = ofBits binary32 (wordAt t i)
 unfoldable pub givenVec : List ℕ → ℕ → Vec3
 givenVec t i = record { x = givenFloat t i; y = givenFloat t (i + 1); z = givenFloat t (i + 2) }
 
--- a table's words loaded from one place up to another
-unfoldable pub loadedPart : List ℕ → List ℕ → ℕ → ℕ → List ℕ
-loadedPart t w from to =
-    cond (leb to (length w) && leb from to) (take from w ++ (wordsOf t (to - from) ++ drop (to - from) (drop from w))) w
-
--- ---- what a call works on: plan, arguments, nodes and order, and zeros to a whole row
+-- what a call works on: plan, arguments, nodes and order, and zeros to a whole row
 unfoldable pub tableOf : List ℕ → List ℕ → List ℕ → List ℕ → List ℕ
 tableOf plan args nodes order =
     (((wordsOf plan planWords ++ wordsOf args argsWords) ++ wordsOf nodes nodesWords) ++ wordsOf order orderPlaces)
     ++ wordsOf [] 9
 
--- of a call on the plan that reads `need` bytes of arguments
-unfoldable pub planTable : ℕ → List ℕ → List ℕ → List ℕ
+unfoldable pub planTable : ℕ → List ℕ → List ℕ → List ℕ  -- of a call on the plan that reads `need` bytes of arguments
 planTable need plan args = tableOf (lentOf plan planBytes) (lentOf args need) [] []
 
--- of a call that asks by the tree or by the list
 unfoldable pub askTable : ℕ → List ℕ → List ℕ → List ℕ → ℕ → List ℕ → List ℕ
 askTable need plan nodes order tree args =
     tableOf (lentOf plan planBytes) (lentOf args need) (usedOf tree nodes nodesBytes) (usedOf tree order orderBytes)

@@ -3,9 +3,11 @@
 ghost use mathlib.Core.Path.{_≡_};
 ghost use mathlib.Core.List.{[]};
 ghost use Rattle.plan.specs.Plan.{seen};
-ghost use Rattle.wire.specs.Lent.{lentOf, usedOf, givenFloat, givenVec, loadedPart, tableOf};
+ghost use Rattle.wire.specs.Lent.{lentOf, usedOf, givenFloat, givenVec, tableOf};
+ghost use Rattle.wire.specs.Inside.Parts.{loadedPart};
 ghost use Rattle.wire.specs.Lent.{planTable, askTable};
-ghost use Rattle.wire.specs.Sent.{storedFront, storedPlan, storedTable, clearedFront, cleared, Sent};
+ghost use Rattle.wire.specs.Sent.{clearedFront, cleared, Sent};
+ghost use Rattle.wire.specs.Inside.Parts.{storedFront, storedPlan, storedTable};
 use plan::Floats;
 use plan::Nodes;
 use plan::Order;

@@ -10,9 +10,10 @@ use lib.Ieee.{Float}
 use Rattle.words.specs.Words.{withWords}
 use Rattle.plan.specs.Plan.{seen}
 use Rattle.reply.specs.declared.Reply.{Reply}
-use Rattle.wire.specs.Sent.{storedPlan, cleared, Sent}
+use Rattle.wire.specs.Sent.{cleared, Sent}
+use Rattle.wire.specs.Inside.Parts.{storedPlan}
 use Rattle.wire.proofs.Replies.{sent-as, number-of}
-use Rattle.bemitondry_entry.specs.Entries.{EntersTable}
+use Rattle.bemitondry_entry.specs.Inside.Enters.{EntersTable}
 use Rattle.wire_entry.specs.Entries.{EntrySent}
 
 stored-left : (n : ℕ) (left w plan : List ℕ) → storedPlan (eqb n 0) (cond (eqb n 0) left w) plan ≡ cond (eqb n 0) (withWords plan (take 22288 left)) plan

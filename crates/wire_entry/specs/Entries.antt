@@ -1,5 +1,4 @@
 -- What each entry leaves of the bytes that are lent: "a piece and its cutters enter together or nothing changes".
--- Definitions only.
 use Prim.Native.Nat.{ℕ}
 use mathlib.Core.Path.{_≡_}
 use mathlib.Core.Bool.{Bool, true, false, cond}
@@ -22,7 +21,6 @@ pub record EntrySent (number index : ℕ) (left plan out : List ℕ) (n : ℕ) (
   pub sent : Sent (replyOf number (oneWord index)) out n out′
   pub plan-is : plan′ ≡ cond (eqb number 0) (withWords plan (take planWords left)) plan
 
--- ---- the entry of what stands in the table that is loaded
 abbrev pub MaterialSent : List ℕ → List ℕ → List ℕ → ℕ → List ℕ → List ℕ → Type 0
 MaterialSent plan args out n plan′ out′ =
     let w = planTable 20 plan args in
@@ -35,7 +33,6 @@ LightSent plan args out n plan′ out′ =
     EntrySent (lightEntry (planBefore (length plan) 60 (length args) (length out)) w (seen w)) (countOf lights w)
     (withLightWords w) plan out n plan′ out′
 
--- before is what applies by the tables' lengths
 abbrev pub PieceOn : List ℕ → ℕ → Bool → ℕ → List ℕ → ℕ → List ℕ → ℕ → List ℕ → List ℕ → Type 0
 PieceOn w before among index plan bytes out n plan′ out′ =
     EntrySent (pieceEntry before among w (seen w) bytes) index (pieceLeft among w (seen w)) plan out n plan′ out′

@@ -1,12 +1,10 @@
--- What applies by the tables' lengths before a word is judged. "Of all the numbers that apply, from the arguments, the
--- tables and the plan together, the lowest is sent." Definitions only.
+-- What applies by the tables' lengths, before a word is judged.
 use Prim.Native.Nat.{ℕ}
 use mathlib.Core.Bool.{cond}
 use lib.Dec.{leb, eqb}
 use Rattle.refusals.specs.Refusals.{badNumber, noRoom, unless, lower}
 
--- "plan 22,288 words, 89,152 bytes; nodes 4,599 words, 18,396 bytes; order 256 words, 1,024 bytes", and sixteen words
--- of an answer
+-- "plan 89,152 bytes; nodes 18,396 bytes; order 1,024 bytes", and sixteen words of an answer
 abbrev pub planBytes : ℕ
 planBytes = 89152
 
@@ -19,12 +17,10 @@ orderBytes = 1024
 abbrev pub outBytes : ℕ
 outBytes = 64
 
--- a table of so many bytes that is short of its full size gets 2
-unfoldable pub shortNumber : ℕ → ℕ → ℕ
+unfoldable pub shortNumber : ℕ → ℕ → ℕ  -- a table of so many bytes that is short of its full size gets 2
 shortNumber bytes full = unless noRoom (leb full bytes)
 
--- arguments of which a call reads `need` bytes, and its answer
-unfoldable pub argsBefore : ℕ → ℕ → ℕ → ℕ
+unfoldable pub argsBefore : ℕ → ℕ → ℕ → ℕ  -- arguments of which a call reads `need` bytes, and its answer
 argsBefore need args out = lower (shortNumber args need) (shortNumber out outBytes)
 
 unfoldable pub planBefore : ℕ → ℕ → ℕ → ℕ → ℕ
@@ -33,14 +29,11 @@ planBefore plan need args out = lower (shortNumber plan planBytes) (argsBefore n
 unfoldable pub tablesBefore : ℕ → ℕ → ℕ
 tablesBefore nodes order = lower (shortNumber nodes nodesBytes) (shortNumber order orderBytes)
 
--- a call that writes the tree's tables
-unfoldable pub treeTablesBefore : ℕ → ℕ → ℕ → ℕ → ℕ → ℕ → ℕ
+unfoldable pub treeTablesBefore : ℕ → ℕ → ℕ → ℕ → ℕ → ℕ → ℕ  -- a call that writes the tree's tables
 treeTablesBefore plan nodes order need args out = lower (planBefore plan need args out) (tablesBefore nodes order)
 
--- "`tree` is 1 for the tree, 0 for the plain list; another number gets 1"
-unfoldable pub treeBefore : ℕ → ℕ → ℕ → ℕ
+unfoldable pub treeBefore : ℕ → ℕ → ℕ → ℕ  -- "`tree` is 1 for the tree, 0 for the plain list; another number gets 1"
 treeBefore tree nodes order = cond (eqb tree 1) (tablesBefore nodes order) (unless badNumber (eqb tree 0))
 
--- a call that asks
-unfoldable pub askBefore : ℕ → ℕ → ℕ → ℕ → ℕ → ℕ → ℕ → ℕ
+unfoldable pub askBefore : ℕ → ℕ → ℕ → ℕ → ℕ → ℕ → ℕ → ℕ  -- a call that asks
 askBefore need plan nodes order tree args out = lower (planBefore plan need args out) (treeBefore tree nodes order)

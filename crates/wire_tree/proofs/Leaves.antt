@@ -10,9 +10,11 @@ use Rattle.refusals.specs.Refusals.{lower}
 use Rattle.plan.specs.Plan.{Plan, planOf, seen}
 use Rattle.bvh_build.specs.Tables.{sizeOf}
 use Rattle.reply.specs.declared.Reply.{Reply}
-use Rattle.wire.specs.Sent.{storedTable, Sent}
+use Rattle.wire.specs.Sent.{Sent}
+use Rattle.wire.specs.Inside.Parts.{storedTable}
 use Rattle.wire.proofs.Replies.{sent-as, number-of}
-use Rattle.bemitondry_tree.specs.Trees.{buildNumber, BuildLeaves, offerNumber, judgedTree, sizeIn, OfferLeaves}
+use Rattle.bemitondry_tree.specs.Trees.{buildNumber, offerNumber, judgedTree, sizeIn}
+use Rattle.bemitondry_tree.specs.Inside.Leaves.{BuildLeaves, OfferLeaves}
 use Rattle.wire_tree.specs.Trees.{buildStores, BuildOn, OfferOn}
 
 -- ---- a build

@@ -1,4 +1,4 @@
--- What a build and an offer leave of the bytes that are lent. Definitions only.
+-- What a build and an offer leave of the bytes that are lent.
 use Prim.Native.Nat.{ℕ}
 use mathlib.Core.Path.{_≡_}
 use mathlib.Core.Bool.{Bool, cond, _||_}
@@ -17,8 +17,7 @@ use Rattle.wire.specs.Sent.{Sent}
 use Rattle.bemitondry_tree.specs.Trees.{noNodes, noOrder, buildNumber, offerNumber}
 use Rattle.bemitondry_tree.specs.Trees.{judgedTree, sizeIn, offeredNodes, offeredOrder}
 
--- "a build that ends in 7 leaves node and order tables all zero"
-unfoldable pub buildStores : ℕ → Bool
+unfoldable pub buildStores : ℕ → Bool  -- "a build that ends in 7 leaves node and order tables all zero"
 buildStores number = eqb number 0 || eqb number tooDeep
 
 abbrev pub builtWords : ℕ → List ℕ → List ℕ → List ℕ
@@ -42,7 +41,7 @@ BuildSent plan nodes order out n nodes′ order′ out′ =
     (buildNumber (treeTablesBefore (length plan) (length nodes) (length order) 0 0 (length out)) (buildPlan plan))
     (buildPlan plan) nodes order out n nodes′ order′ out′
 
--- ---- "An offered tree that is refused leaves the standing one"; w is the table that is loaded, the tree offered in it
+-- "An offered tree that is refused leaves the standing one"; w is the table that is loaded, the tree offered in it
 pub record OfferOn (number : ℕ) (w : List ℕ) (f : List Float) (nodes order out : List ℕ) (n : ℕ)
     (nodes′ order′ out′ : List ℕ) : Type 0 where
   pub sent : Sent (replyOf number (oneWord (sizeIn (judgedTree w f)))) out n out′

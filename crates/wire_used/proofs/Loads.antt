@@ -15,7 +15,8 @@ use Rattle.words.proofs.Runs.{length-from, word-past}
 use Rattle.plan.specs.Records.{wordOf, floatOf}
 use Rattle.plan.specs.Plan.{seen}
 use Rattle.plan.proofs.Rows.{float-of}
-use Rattle.wire.specs.Lent.{loadedPart, tableOf}
+use Rattle.wire.specs.Lent.{tableOf}
+use Rattle.wire.specs.Inside.Parts.{loadedPart}
 use Rattle.wire.proofs.Loads.{table-loaded}
 use Rattle.wire_used.specs.Inside.Used.{Seen, Shown, Put, Filled, Ends, Begins, InOrder, Early, Listed}
 use Rattle.wire_used.specs.Inside.Used.{WithCutters, Begun, Used, Spared}

@@ -14,7 +14,7 @@ use Rattle.words.specs.Words.{wordAt, wordsOf, le4}
 use Rattle.words.proofs.Laws.{less-or}
 use Rattle.words.proofs.Runs.{length-from, getD-from}
 use Rattle.plan.specs.Records.{wordOf}
-use Rattle.wire.specs.Lent.{loadedPart}
+use Rattle.wire.specs.Inside.Parts.{loadedPart}
 
 module _ {A : Type 0} (d : A) where
   -- equal members make equal lists

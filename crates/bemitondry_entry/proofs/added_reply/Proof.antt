@@ -1,5 +1,5 @@
 -- `bemitondry_entry::added_reply` meets its contract: each return is a case of `addedReply`. Assumes nothing.
-use Rattle.bemitondry_entry.specs.Entries.{addedReply}
+use Rattle.bemitondry_entry.specs.Inside.Enters.{addedReply}
 use borrow.Author.Needs.{needs}
 use Rattle.bemitondry_entry.proofs.added_reply.Statement.{statement}
 use Rattle.bemitondry_entry.proofs.added_reply.Tie as tie

@@ -1,5 +1,5 @@
 -- A float brought between 0.5, in the first bin, and 11, in the last, and the bins of a range's objects noted at their
--- places. Definitions only.
+-- places.
 use Prim.Native.Nat.{ℕ, _<_}
 use mathlib.Core.Path.{_≡_}
 use mathlib.Core.Bool.{cond}
@@ -21,6 +21,5 @@ fromFirst x = cond (lt fhalf x) x fhalf
 abbrev pub toLast : Float → Float
 toLast x = cond (lt x f11) x f11
 
--- of the first n places
-abbrev pub Noted : List Aabb → Grid → List ℕ → List ℕ → ℕ → Type 0
+abbrev pub Noted : List Aabb → Grid → List ℕ → List ℕ → ℕ → Type 0  -- of the first n places
 Noted bs g os places n = (j : ℕ) → j < n → j < 256 → getD places j 0 ≡ binOf g (boxAt bs (getD os j 0))

@@ -1,4 +1,4 @@
--- The bins and the left sums as the code holds them, and bins whose corners are all numbers. Definitions only.
+-- The bins and the left sums as the code holds them, and bins whose corners are all numbers.
 use Prim.Native.Nat.{ℕ, suc, _≤_}
 use mathlib.Core.List.{List}
 use lib.Ieee.{Float}

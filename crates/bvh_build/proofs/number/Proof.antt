@@ -6,7 +6,7 @@ use lib.ListN.{length, take, length-set}
 use borrow.Author.Needs.{needs}
 use Rattle.words.specs.Lists.{listFrom}
 use Rattle.words.proofs.Runs.{fill-none, fill-more, fill-all}
-use Rattle.bvh_build.specs.Encode.{low32}
+use Rattle.bvh_build.specs.Inside.Narrow.{low32}
 use Rattle.bvh_build.proofs.number.Statement.{statement}
 use Rattle.bvh_build.proofs.number.Tie as tie
 

@@ -1,4 +1,4 @@
--- What one call of the builder leaves, given room, and what the whole build leaves. Definitions only.
+-- What one call of the builder leaves, given room, and what the whole build leaves.
 use Prim.Native.Nat.{ℕ, _+_, _*_, _≤_, _<_}
 use mathlib.Core.Path.{_≡_}
 use mathlib.Core.Bool.{false}
@@ -21,8 +21,7 @@ pub record Lays (m : TreeOrder) (nodes : List ℕ) (at s levels : ℕ) (r : Buil
   pub nodes-are : nodes′ ≡ laid nodes (9 * at) (encode (m .tree) at s)
   pub order-is : order′ ≡ m .order
 
--- there is room for every node and place of the range
-pub record Room (os : List ℕ) (at s : ℕ) : Type 0 where
+pub record Room (os : List ℕ) (at s : ℕ) : Type 0 where  -- there is room for every node and place of the range
   pub some : 0 < length os
   pub nodes : at + 2 * length os ≤ 512
   pub places : s + length os ≤ 256
@@ -45,6 +44,5 @@ pub record BuildsFew (p : Plan) (nodes order : List ℕ) (r : Built) (nodes′ o
   pub few : length (p .objects) ≤ 256 → Builds p nodes order r nodes′ order′
   pub many : 256 < length (p .objects) → Unbuilt nodes order r nodes′ order′
 
--- what a table of floats that are 0 holds
-abbrev pub zeroBox : Aabb
+abbrev pub zeroBox : Aabb  -- what a table of floats that are 0 holds
 zeroBox = record { lo = vsplat f0; hi = vsplat f0 }

@@ -1,4 +1,4 @@
--- Corners that are numbers, and the lesser and the greater of a number and any float by one test. Definitions only.
+-- Corners that are numbers, and the lesser and the greater of a number and any float by one test.
 use mathlib.Core.Bool.{cond}
 use lib.Dec.{T}
 use lib.Ieee.{Float, le}

@@ -1,4 +1,4 @@
--- A table of boxes in floats, eight to a box: lo x y z and a spare, hi x y z and a spare. Definitions only.
+-- A table of boxes in floats, eight to a box: lo x y z and a spare, hi x y z and a spare.
 use Prim.Native.Nat.{ℕ, _+_, _*_, _/_}
 use mathlib.Core.Bool.{cond}
 use mathlib.Core.List.{List}
@@ -23,8 +23,7 @@ tableBox f k =
 unfoldable pub tableBoxes : List Float → List Aabb
 tableBoxes f = listFrom (tableBox f) 0 (length f / 8)
 
--- a row without its spares
-abbrev pub corner : Four → Vec3
+abbrev pub corner : Four → Vec3  -- a row without its spares
 corner a = record { x = a .x; y = a .y; z = a .z }
 
 abbrev pub boxIn : Row → Aabb
@@ -46,6 +45,5 @@ rowFor b =
       hi = record { x = b .hi .x; y = b .hi .y; z = b .hi .z; w = f0 };
     }
 
--- the table with box k put in place, where it has such a place
 unfoldable pub putBox : List Float → ℕ → Aabb → List Float
-putBox f k b = putRow f k (rowFor b)
+putBox f k b = putRow f k (rowFor b)  -- the table with box k put in place, where it has such a place

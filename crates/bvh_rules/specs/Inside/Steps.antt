@@ -1,4 +1,4 @@
--- How the checker walks: the nodes in pre-order with a number of levels left, and the order. Definitions only.
+-- How the checker walks: the nodes in pre-order with a number of levels left, and the order.
 use Prim.Native.Nat.{ℕ, zero, suc, _+_, _-_}
 use mathlib.Core.Bool.{Bool, true, false, cond, _&&_}
 use mathlib.Core.List.{List, [], _∷_}
@@ -21,9 +21,8 @@ unfoldable pub every : Bool → List Bool → Bool
 every so [] = so
 every so (b ∷ bs) = every (so && b) bs
 
--- whether the object at place i of the order lies within b
 unfoldable pub heldAt : List ℕ → List Aabb → Aabb → ℕ → Bool
-heldAt o bs b i = inside (boxAt bs (wordOf o i)) b
+heldAt o bs b i = inside (boxAt bs (wordOf o i)) b  -- whether the object at place i of the order lies within b
 
 unfoldable pub holdsAll : List ℕ → List Aabb → Aabb → ℕ → ℕ → Bool
 holdsAll o bs b start count = every true (listFrom (heldAt o bs b) start count)

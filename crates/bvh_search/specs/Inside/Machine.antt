@@ -1,5 +1,5 @@
 -- The search as the code holds it: the node in hand with the square of its box distance, and the others in two tables
--- of 64 places, the last on top. Definitions only; that it comes to `runOf` is shown in proofs/Machine.antt.
+-- of 64 places, the last on top. That it comes to `runOf` is shown in proofs/Machine.antt.
 use Prim.Native.Nat.{ℕ, _+_, _-_, _%_, _^_}
 use mathlib.Core.Bool.{cond}
 use mathlib.Core.List.{List}
@@ -18,15 +18,13 @@ use Rattle.bvh_search.specs.declared.State.{State}
 use Rattle.bvh_search.specs.declared.Pair.{Pair}
 use Rattle.bvh_search.specs.Search.{leafScan, placesOf}
 
--- the square of a box distance
-abbrev pub gapOf : Vec3 → Aabb → Vec3
+abbrev pub gapOf : Vec3 → Aabb → Vec3  -- the square of a box distance
 gapOf p b = vmax (vmax (vsub (b .lo) p) (vsub p (b .hi))) (vsplat f0)
 
 unfoldable pub boxSquare : Vec3 → Aabb → Float
 boxSquare p b = vdot (gapOf p b) (gapOf p b)
 
--- the state with the node a in hand
-abbrev pub holding : State → ℕ → Float → ℕ → State
+abbrev pub holding : State → ℕ → Float → ℕ → State  -- the state with the node a in hand
 holding s a key sp =
     record {
       at = a;
@@ -78,8 +76,7 @@ scanned s x =
       done = s .done;
     }
 
--- the next waiting node in hand, or the end
-unfoldable pub nextOf : List ℕ → List Float → State → State
+unfoldable pub nextOf : List ℕ → List Float → State → State  -- the next waiting node in hand, or the end
 nextOf stack keys s =
     cond (eqb (s .sp) 0) (ended s 1) (holding s (getD stack (s .sp - 1) 0) (getD keys (s .sp - 1) nan) (s .sp - 1))
 
@@ -91,8 +88,7 @@ pub record Tables : Type 0 where
 abbrev pub tables : List ℕ → List Float → State → Tables
 tables stack keys s = record { stack = stack; keys = keys; state = s }
 
--- a and its key waiting, b in hand
-abbrev pub twoOf : List ℕ → List Float → State → ℕ → Float → ℕ → Float → Tables
+abbrev pub twoOf : List ℕ → List Float → State → ℕ → Float → ℕ → Float → Tables  -- a and its key waiting, b in hand
 twoOf stack keys s a ka b kb = tables (set stack (s .sp) a) (set keys (s .sp) ka) (holding s b kb (s .sp + 1))
 
 unfoldable pub squareAt : List ℕ → List Float → Vec3 → ℕ → Float
@@ -113,8 +109,7 @@ unfoldable pub scannedOf : List ℕ → List ℕ → List Float → Vec3 → Lis
 scannedOf o w f p stack keys s v = nextOf stack keys (scanned s (leafScan w f o p (v .start) (placesOf v) (s .hit)))
 
 module _ (nw : List ℕ) (nf : List Float) (o : List ℕ) (w : List ℕ) (f : List Float) (p : Vec3) where
-  -- the node in hand, near enough
-  unfoldable pub openedOf : List ℕ → List Float → State → Node → Tables
+  unfoldable pub openedOf : List ℕ → List Float → State → Node → Tables  -- the node in hand, near enough
   openedOf stack keys s v =
       cond (ltb (s .at) nodesMost)
       (cond (eqb (v .count) 0)
@@ -122,8 +117,7 @@ module _ (nw : List ℕ) (nf : List Float) (o : List ℕ) (w : List ℕ) (f : Li
       (tables stack keys (scannedOf o w f p stack keys s v)))
       (tables stack keys (nextOf stack keys s))
 
-  -- one pop
-  unfoldable pub steppedOf : List ℕ → List Float → State → Tables
+  unfoldable pub steppedOf : List ℕ → List Float → State → Tables  -- one pop
   steppedOf stack keys s =
       cond (farOff (s .key) (s .hit .d))
       (tables stack keys (nextOf stack keys (popping s)))

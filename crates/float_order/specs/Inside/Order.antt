@@ -1,5 +1,5 @@
 -- What the laws of order speak of: numbers, finite values as fractions, bounds, what rounds to what, and the nearer of
--- two. Definitions only.
+-- two.
 use Prim.Native.Nat.{ℕ, zero, suc, _+_, _*_, _≤_, _<_}
 use mathlib.Core.Path.{_≡_}
 use mathlib.Core.Bool.{Bool, true, false, not, cond}
@@ -10,14 +10,12 @@ use lib.Ieee.Exact.{HasValue}
 use lib.Ieee.Positive.{den}
 use lib.Ieee.Scale.{finite}
 
--- all but NaN
-abbrev pub number : Float → Bool
+abbrev pub number : Float → Bool  -- all but NaN
 number nan = false
 number (inf s) = true
 number (fin s m e) = true
 
--- 0, opened
-abbrev pub zeroF : Float
+abbrev pub zeroF : Float  -- 0, opened
 zeroF = fin false 0 (pos 0)
 
 abbrev pub minusZero : Float → Bool
@@ -26,8 +24,7 @@ minusZero (inf s) = false
 minusZero (fin s zero e) = s
 minusZero (fin s (suc m) e) = false
 
--- a number whose sign is clear
-abbrev pub clear : Float → Bool
+abbrev pub clear : Float → Bool  -- a number whose sign is clear
 clear nan = false
 clear (inf s) = not s
 clear (fin s m e) = not s
@@ -45,8 +42,7 @@ debit (inf s) = 0
 debit (fin false m e) = 0
 debit (fin true m e) = m * up e
 
--- x is at most y, and below y, as fractions
-abbrev pub AtMost : Float → Float → Type 0
+abbrev pub AtMost : Float → Float → Type 0  -- x is at most y, and below y, as fractions
 AtMost x y = credit x * den y + debit y * den x ≤ credit y * den x + debit x * den y
 
 abbrev pub Under : Float → Float → Type 0
@@ -57,23 +53,19 @@ pub record Zero (x : Float) : Type 0 where
   pub gain : credit x ≡ 0
   pub loss : debit x ≡ 0
 
--- x is finite, and no larger than b either way
-pub record Bounded (b : ℕ) (x : Float) : Type 0 where
+pub record Bounded (b : ℕ) (x : Float) : Type 0 where  -- x is finite, and no larger than b either way
   pub finite : T (finite x)
   pub size : credit x + debit x ≤ b * den x
 
 -- ---- rounding
--- the format holds the number b
-abbrev pub Exactly : Format → ℕ → Type 0
+abbrev pub Exactly : Format → ℕ → Type 0  -- the format holds the number b
 Exactly f b = HasValue (round f false b 1) false b 1
 
--- p - n is k, or -k
-abbrev pub Apart : Bool → ℕ → ℕ → ℕ → Type 0
+abbrev pub Apart : Bool → ℕ → ℕ → ℕ → Type 0  -- p - n is k, or -k
 Apart false k p n = p ≡ n + k
 Apart true k p n = n ≡ p + k
 
--- r is (p - n) / c, rounded
-pub record Rounded (f : Format) (r : Float) (p n c : ℕ) : Type 0 where
+pub record Rounded (f : Format) (r : Float) (p n c : ℕ) : Type 0 where  -- r is (p - n) / c, rounded
   pub sign : Bool
   pub size : ℕ
   pub apart : Apart sign size p n

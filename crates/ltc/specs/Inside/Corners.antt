@@ -1,4 +1,4 @@
--- The code's five places as a list: the first n of them. Definitions only.
+-- The code's five places as a list: the first n of them.
 use mathlib.Core.List.{List, [], _∷_}
 use lib.ListN.{take}
 use Rattle.vec.specs.declared.Vec3.{Vec3}

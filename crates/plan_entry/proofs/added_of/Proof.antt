@@ -1,6 +1,6 @@
 -- `plan_entry::added_of` meets its contract: by the test of the number. Assumes nothing.
 use borrow.Author.Tests.{eq-eqb, ne-eqb}
-use Rattle.plan_entry.specs.Entry.{addedOf}
+use Rattle.plan_entry.specs.Inside.Adds.{addedOf}
 use Rattle.plan_entry.proofs.added_of.Statement.{statement}
 use Rattle.plan_entry.proofs.added_of.Tie as tie
 

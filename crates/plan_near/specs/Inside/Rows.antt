@@ -1,4 +1,4 @@
--- A primitive by its kind and the place of its eight floats. Definitions only.
+-- A primitive by its kind and the place of its eight floats.
 use Prim.Native.Nat.{ℕ, _+_}
 use mathlib.Core.List.{List}
 use lib.Ieee.{Float}
@@ -6,8 +6,7 @@ use Rattle.sdf.specs.declared.Shape.{Shape}
 use Rattle.refusals.specs.Prims.{shapeOf}
 use Rattle.plan.specs.Records.{floatOf}
 
--- the table has eight floats from any place before this one on
-abbrev pub eightLeft : ℕ
+abbrev pub eightLeft : ℕ  -- the table has eight floats from any place before this one on
 eightLeft = 27288
 
 abbrev pub shapeIn : ℕ → List Float → ℕ → Shape

@@ -1,4 +1,4 @@
--- The number of all objects' cutters as one list, as the code works it out. Definitions only.
+-- The number of all objects' cutters as one list, as the code works it out.
 use Prim.Native.Nat.{ℕ, _+_}
 use mathlib.Core.Bool.{Bool, cond}
 use mathlib.Core.List.{List}

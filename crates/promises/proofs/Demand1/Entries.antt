@@ -9,7 +9,8 @@ use lib.Dec.{eqb}
 use Rattle.words.specs.Words.{withWords}
 use Rattle.plan.specs.Sections.{planWords, argsRow}
 use Rattle.plan.specs.Records.{materialAt, lightAt}
-use Rattle.plan.specs.Plan.{Plan, seen, planIn, withMaterial, withLight}
+use Rattle.plan.specs.Plan.{Plan, seen, planIn}
+use Rattle.plan.specs.With.{withMaterial, withLight}
 use Rattle.plan_test.specs.Tests.{solidsOf}
 use Rattle.plan_write.specs.Written.{argCuts, withMaterialWords, withLightWords}
 use Rattle.plan_entry.specs.Entry.{newPlace}

@@ -15,7 +15,8 @@ use Rattle.plan.specs.Sections.{planWords, argsRow, cutterPlaces, materials, li
 use Rattle.plan.specs.declared.Head.{Head}
 use Rattle.plan.specs.declared.Material.{Material}
 use Rattle.plan.specs.Records.{wordOf, floatOf, materialAt, lightAt}
-use Rattle.plan.specs.Plan.{Plan, cutsBy, countOf, seen, planIn, withMaterial, withLight}
+use Rattle.plan.specs.Plan.{Plan, cutsBy, countOf, seen, planIn}
+use Rattle.plan.specs.With.{withMaterial, withLight}
 use Rattle.plan.proofs.Rows.{float-of, moved, light-same}
 use Rattle.plan_test.specs.Tests.{cuttersOf}
 use Rattle.record_test.specs.Exact.{LightOk}

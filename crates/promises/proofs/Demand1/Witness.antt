@@ -13,7 +13,8 @@ use Rattle.sdf.specs.declared.Shape.the-variants.{Sphere}
 use Rattle.words.specs.Lists.{listFrom}
 use Rattle.refusals.specs.Ranges.{upTo, within, coordinates, radius}
 use Rattle.refusals.specs.Prims.{shapeOf, shapeOk, flat}
-use Rattle.plan.specs.Plan.{Piece, Plan, withMaterial, withObject}
+use Rattle.plan.specs.Plan.{Piece, Plan}
+use Rattle.plan.specs.With.{withMaterial, withObject}
 use Rattle.plan_test.specs.Tests.{cuttersOf}
 use Rattle.promises.specs.Demand1.{emptyPlan}
 use Rattle.promises.proofs.Cases.{either}

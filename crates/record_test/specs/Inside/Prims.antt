@@ -1,4 +1,4 @@
--- The number of a primitive by its kind and eight floats, as the code works it out. Definitions only.
+-- The number of a primitive by its kind and eight floats, as the code works it out.
 use Prim.Native.Nat.{ℕ}
 use lib.Ieee.{Float}
 use Rattle.vec.specs.declared.Vec3.{Vec3}

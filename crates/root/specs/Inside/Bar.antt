@@ -6,19 +6,16 @@ use mathlib.Core.Bool.{Bool, true, false, cond}
 use lib.IntN.{pos, negsuc}
 use lib.Ieee.{Float, fin, binary32, binary64, add, mul, ofBits, toBits, lt}
 
--- the f32 just below b, and 0 for 0
-abbrev pub below : Float → Float
+abbrev pub below : Float → Float  -- the f32 just below b, and 0 for 0
 below b = ofBits binary32 (toBits binary32 b - 1)
 
--- the midpoint of b and the f32 just below, and its square, as f64
-abbrev pub middle : Float → Float
+abbrev pub middle : Float → Float  -- the midpoint of b and the f32 just below, and its square, as f64
 middle b = mul binary64 (add binary64 (below b) b) (fin false 1 (negsuc 0))
 
 abbrev pub bar : Float → Float
 bar b = mul binary64 (middle b) (middle b)
 
--- for every b: 0 where b is not above zero
-unfoldable pub barOf : Float → Float
+unfoldable pub barOf : Float → Float  -- for every b: 0 where b is not above zero
 barOf b = cond (lt (fin false 0 (pos 0)) b) (bar b) (fin false 0 (pos 0))
 
 -- 1 and 2 ^ -20: two roots differ where the greater square is at least the lesser one times this (`apart-law` of

@@ -7,20 +7,16 @@ use Rattle.root.specs.Root.{rootOf}
 use Rattle.root.specs.Inside.Bar.{barOf}
 use Rattle.scalar.specs.F32.{f0}
 
--- f32::MAX
-abbrev pub most : Float
+abbrev pub most : Float  -- f32::MAX
 most = ofBits binary32 0x7f7f_ffff
 
--- above zero and finite
-unfoldable pub usual : Float → Bool
+unfoldable pub usual : Float → Bool  -- above zero and finite
 usual x = cond (lt f0 x) (le x most) false
 
--- the root of s is at least d
-unfoldable pub farOff : Float → Float → Bool
+unfoldable pub farOff : Float → Float → Bool  -- the root of s is at least d
 farOff s d = le d (rootOf s)
 
--- the root of l is less than that of r
-unfoldable pub leftFirst : Float → Float → Bool
+unfoldable pub leftFirst : Float → Float → Bool  -- the root of l is less than that of r
 leftFirst l r = lt (rootOf l) (rootOf r)
 
 -- what a square is held against, so that its root is at least d where the square is at least this

@@ -1,5 +1,4 @@
 -- Parts of a cylinder's distance and of a cone's: from what their roots are taken of, and what bounds it from below.
--- Definitions only.
 use mathlib.Core.Path.{_≡_}
 use mathlib.Core.Bool.{cond}
 use lib.Dec.{T}
@@ -11,16 +10,14 @@ use Rattle.scalar.specs.Signs.{absOf, signumOf}
 use Rattle.sdf.specs.Shapes.{beyond, cylinderSquare, coneEnd, coneFoot, coneSign}
 use Rattle.float_order.specs.Inside.Order.{number}
 
--- the square of how far x is above zero
-abbrev pub outside : Float → Float
+abbrev pub outside : Float → Float  -- the square of how far x is above zero
 outside x = beyond x (x ⊗ x)
 
 -- `cylinderSquare`, the square y2 of y and what of it is outside worked out before
 abbrev pub squareAt : Float → Float → Float → Float → Float
 squareAt x y y2 by = cond (lt (fmax x y) f0) (neg (fmin (x ⊗ x) y2)) (outside x ⊕ by)
 
--- the distance from its signed square
-abbrev pub rooted : Float → Float → Float
+abbrev pub rooted : Float → Float → Float  -- the distance from its signed square
 rooted d baba = signumOf d ⊗ rootOf (absOf d) ⊘ baba
 
 -- `cylinderBody` from the square q of the way to the axis, times baba, and the radius times baba
@@ -34,19 +31,16 @@ sq x = x ⊗ x
 abbrev pub lesser : Float → Float → Float
 lesser a b = cond (lt a b) a b
 
--- x where it is not below zero
-abbrev pub notBelow : Float → Float
+abbrev pub notBelow : Float → Float  -- x where it is not below zero
 notBelow x = cond (lt x f0) f0 x
 
--- how far past the nearer end, in lengths of the axis
-abbrev pub pastEnd : Float → Float
+abbrev pub pastEnd : Float → Float  -- how far past the nearer end, in lengths of the axis
 pastEnd paba = cond (lt paba fhalf) (neg (paba ⊖ f0)) (paba ⊖ f1)
 
 abbrev pub cayOf : Float → Float
 cayOf paba = absOf (paba ⊖ fhalf) ⊖ fhalf
 
--- how far from the slanted side at the place f of it
-abbrev pub cbxAt : Float → Float → Float → Float → Float
+abbrev pub cbxAt : Float → Float → Float → Float → Float  -- how far from the slanted side at the place f of it
 cbxAt x ra rba f = x ⊖ ra ⊖ f ⊗ rba
 
 -- the square of the distance, from the radial distance x
@@ -66,8 +60,7 @@ pub record Ends (paba cay e : Float) : Type 0 where
   pub side : (f : Float) → T (le f0 f) → T (le f f1) → T (number (paba ⊖ f)) → T (le (sq e) (sq (paba ⊖ f)))
   pub none : T (lt cay f0) → e ≡ f0
 
--- z bounds from below what its distance from the axis adds
-pub record Sides (x ra rb rba z : Float) : Type 0 where
+pub record Sides (x ra rb rba z : Float) : Type 0 where  -- z bounds from below what its distance from the axis adds
   pub first : T (le (sq z) (sq (fmax f0 (x ⊖ ra))))
   pub last : T (le (sq z) (sq (fmax f0 (x ⊖ rb))))
   pub side

@@ -2,7 +2,7 @@
 -- nothing.
 use native.Mathlib.Omega.{arith}
 use borrow.Author.Tests.{le-leb, lt-leb}
-use Rattle.wire.specs.Lent.{loadedPart}
+use Rattle.wire.specs.Inside.Parts.{loadedPart}
 use Rattle.wire.proofs.Loads.{part-put}
 use borrow.Author.Needs.{needs}
 use Rattle.wire.proofs.load_part.Statement.{statement}

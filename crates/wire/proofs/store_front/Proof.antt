@@ -2,7 +2,7 @@
 use mathlib.Core.Path.{sym}
 use lib.Seq.{length-take-le}
 use borrow.Author.Tests.{le-leb, lt-leb}
-use Rattle.wire.specs.Sent.{storedFront}
+use Rattle.wire.specs.Inside.Parts.{storedFront}
 use borrow.Author.Needs.{needs}
 use Rattle.wire.proofs.store_front.Statement.{statement}
 use Rattle.wire.proofs.store_front.Tie as tie

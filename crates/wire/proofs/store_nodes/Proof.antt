@@ -1,5 +1,5 @@
 -- `wire::store_nodes` meets its contract: each return is a case of `storedTable`. Assumes nothing.
-use Rattle.wire.specs.Sent.{storedTable}
+use Rattle.wire.specs.Inside.Parts.{storedTable}
 use borrow.Author.Needs.{needs}
 use Rattle.wire.proofs.store_nodes.Statement.{statement}
 use Rattle.wire.proofs.store_nodes.Tie as tie

@@ -4,7 +4,7 @@ use borrow.Author.Tests.{le-leb}
 use Prim.Native.Nat.{_≤_}
 use mathlib.Core.Path.{_∙_}
 use lib.ListN.{length}
-use Rattle.wire.specs.Sent.{storedFront, storedPlan}
+use Rattle.wire.specs.Inside.Parts.{storedFront, storedPlan}
 use borrow.Author.Needs.{needs}
 use Rattle.wire.proofs.store_plan.Statement.{statement}
 use Rattle.wire.proofs.store_plan.Tie as tie

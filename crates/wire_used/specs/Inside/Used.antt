@@ -1,4 +1,4 @@
--- What of a call's table is used, and a table that has no more than that. Definitions only.
+-- What of a call's table is used, and a table that has no more than that.
 use Prim.Native.Nat.{ℕ, _+_, _*_, _-_, _<_, _≤_}
 use mathlib.Core.Path.{_≡_}
 use mathlib.Core.Logic.{_⊎_}
@@ -10,8 +10,7 @@ use Rattle.plan.specs.Sections.{cutterRow, cutterPlaces, planWords, nodesFirst,
 use Rattle.plan.specs.Sections as table
 use Rattle.plan.specs.Records.{wordOf, floatOf}
 
--- the cutters' first word
-abbrev pub cutterFirst : ℕ
+abbrev pub cutterFirst : ℕ  -- the cutters' first word
 cutterFirst = 16 * cutterRow
 
 -- ---- loading
@@ -21,8 +20,7 @@ pub record Seen (w : List ℕ) (f g : List Float) (from to : ℕ) : Type 0 where
   pub inside : (i : ℕ) → from ≤ i → i < to → floatOf g i ≡ ofBits binary32 (wordOf w i)
   pub outside : (i : ℕ) → (i < from) ⊎ (to ≤ i) → floatOf g i ≡ floatOf f i
 
--- f is w, seen as floats
-pub record Shown (w : List ℕ) (f : List Float) : Type 0 where
+pub record Shown (w : List ℕ) (f : List Float) : Type 0 where  -- f is w, seen as floats
   pub long : length w ≡ tableWords
   pub wide : length f ≡ tableWords
   pub each : (i : ℕ) → i < tableWords → floatOf f i ≡ ofBits binary32 (wordOf w i)
@@ -54,20 +52,16 @@ pub record InOrder (w : List ℕ) (m : ℕ) : Type 0 where
   pub objects : m ≤ table.objects .most
   pub order : (i : ℕ) → i < orderPlaces → wordOf w (orderFirst + i) < m
 
--- the words of x from one place up to another are those of t
-abbrev pub SameWords : List ℕ → List ℕ → ℕ → ℕ → Type 0
+abbrev pub SameWords : List ℕ → List ℕ → ℕ → ℕ → Type 0  -- the words of x from one place up to another are those of t
 SameWords t x from to = (i : ℕ) → from ≤ i → i < to → wordOf x i ≡ wordOf t i
 
--- the place of a word among n rows from a row on
-abbrev pub InRows : ℕ → ℕ → ℕ → Type 0
+abbrev pub InRows : ℕ → ℕ → ℕ → Type 0  -- the place of a word among n rows from a row on
 InRows first n i = (16 * first ≤ i) × (i < 16 * (first + n))
 
--- the places of counts, arguments and order, and all past these
-abbrev pub Early : ℕ → Type 0
+abbrev pub Early : ℕ → Type 0  -- the places of counts, arguments and order, and all past these
 Early i = ((i < 16) ⊎ ((planWords ≤ i) × (i < nodesFirst))) ⊎ (orderFirst ≤ i)
 
--- and those of the rows of the lists of t, with m objects
-abbrev pub Listed : List ℕ → ℕ → ℕ → Type 0
+abbrev pub Listed : List ℕ → ℕ → ℕ → Type 0  -- and those of the rows of the lists of t, with m objects
 Listed t m i =
     (((Early i ⊎ InRows (table.materials .first) (wordOf t (table.materials .count)) i)
     ⊎ InRows (table.planes .first) (wordOf t (table.planes .count)) i)
@@ -104,8 +98,7 @@ pub record Used (t x : List ℕ) (m : ℕ) : Type 0 where
   pub back : SameWords t x (cutterFirst + 16 * v) planWords
   pub nodes : (i : ℕ) → nodesFirst ≤ i → i < nodesFirst + 18 * m → i < orderFirst → wordOf x i ≡ wordOf t i
 
--- x has of t what is used, or all
-pub record Spared (t x : List ℕ) : Type 0 where
+pub record Spared (t x : List ℕ) : Type 0 where  -- x has of t what is used, or all
   pub long : length x ≡ tableWords
   pub whole : length t ≡ tableWords
   pub early : (i : ℕ) → Early i → wordOf x i ≡ wordOf t i
