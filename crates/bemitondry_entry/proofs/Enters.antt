@@ -6,7 +6,7 @@ use mathlib.Core.List.{List}
 use lib.Dec.{eqb}
 use Rattle.plan_entry.specs.declared.Added.{Added}
 use Rattle.plan_entry.specs.declared.Added.the-variants.{Refused, Done}
-use Rattle.plan_entry.specs.Inside.Adds.{addedOf, Enters}
+use Rattle.plan_entry.specs.Inside.Adds.{addedOf, AddsOne}
 use Rattle.reply.specs.declared.Reply.{Reply}
 use Rattle.reply.specs.Reply.{refusedReply, oneWord, replyOf}
 use Rattle.bemitondry_entry.specs.Inside.Enters.{addedReply, EntersTable}
@@ -22,6 +22,6 @@ added-as number index = go (eqb number 0)
     go false = refl
 
 pub enters-table : (number index : ℕ) (w left : List ℕ) (a : Added) (w′ : List ℕ) (r : Reply)
-    → Enters number index w left a w′ → r ≡ addedReply a → EntersTable number index w left r w′
+    → AddsOne number index w left a w′ → r ≡ addedReply a → EntersTable number index w left r w′
 enters-table number index w left a w′ r e h =
     record { reply = h ∙ ap addedReply (e .answer) ∙ added-as number index; table = e .table }

@@ -13,14 +13,14 @@ use Rattle.words.specs.Lists.{listFrom}
 use Rattle.words.proofs.Runs.{getD-from}
 use Rattle.bvh_boxes.specs.Boxes.{nowhere, merge, boxAt}
 use Rattle.bvh_range.specs.declared.Row.{Row}
-use Rattle.bvh_range.specs.Inside.Table.{tableBoxes, boxIn, putRow}
+use Rattle.bvh_range.specs.Inside.Table.{tableBoxes, boxOfRow, withRow}
 use Rattle.bvh_range.specs.Range.{members}
 use Rattle.bvh_range.proofs.Members.{members-more, members-none}
 use Rattle.bvh_range.proofs.Table.{box-count, length-put-row, rows-put}
 use Rattle.bvh_bins.specs.declared.Grid.{Grid}
 use Rattle.bvh_bins.specs.declared.Sweep.{Sweep}
 use Rattle.bvh_bins.specs.Bins.{binOf, plus, Bins, noBins, dropIn, binsFrom, area, leftBox, leftCount, takeBin}
-use Rattle.bvh_bins.specs.Bins.{choose, stepAt, sweepFrom, splitBy}
+use Rattle.bvh_bins.specs.Bins.{choose, sweepAt, sweepFrom, splitBy}
 use Rattle.bvh_bins.specs.Inside.Sums.{binned, leftArea, leftThrough}
 
 -- ---- over the objects of a range
@@ -54,12 +54,12 @@ bins-turn bs os i g f f' n n' k m σ h e₁ e₂ p q v =
     rw (drop-binned g f f' n n' k m e₂ p q, e₁) (sym (bins-more bs os i g (binned f n) h) ∙ v)
 
 -- ---- a table filled with empty boxes
-module _ (t t' : List Float) (k : ℕ) (b : Row) (p : t' ≡ putRow t k b) where
+module _ (t t' : List Float) (k : ℕ) (b : Row) (p : t' ≡ withRow t k b) where
   pub length-turn : length t' ≡ length t
   length-turn = ap length p ∙ length-put-row t k b
 
   pub empty-turn
-      : boxIn b ≡ nowhere → k < length t / 8 → take k (tableBoxes t) ≡ replicate k nowhere
+      : boxOfRow b ≡ nowhere → k < length t / 8 → take k (tableBoxes t) ≡ replicate k nowhere
       → take (k + 1) (tableBoxes t') ≡ replicate (k + 1) nowhere
   empty-turn e h q =
       rw (p, rows-put, e, add-one, take-suc-set (tableBoxes t) k nowhere (omega (arith, box-count t)), q)
@@ -101,7 +101,7 @@ pub sweep-more : (σ : Bins) (areas : List Float) (counts : List ℕ) (i : ℕ) 
     ≡ sweepFrom σ (i - 1)
     (choose (takeBin s (boxAt (σ .boxes) i) (getD (σ .counts) i 0)) (getD areas (i - 1) nan)
     (getD counts (i - 1) 0) i)
-unfolding sweepFrom stepAt leftArea leftThrough
+unfolding sweepFrom sweepAt leftArea leftThrough
 sweep-more σ areas counts zero s h l p q = absurd (omega arith)
 sweep-more σ areas counts (suc k) s h l p q =
     let z : suc k - 1 ≡ k = omega arith in

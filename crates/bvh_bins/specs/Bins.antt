@@ -80,12 +80,12 @@ choose s la lc i =
 unfoldable pub takeBin : Sweep → Aabb → ℕ → Sweep  -- one bin more from the right
 takeBin s b n = record { hull = merge (s .hull) b; count = plus (s .count) n; cost = s .cost; split = s .split }
 
-unfoldable pub stepAt : Bins → ℕ → Sweep → Sweep
-stepAt σ i s = choose (takeBin s (boxAt (σ .boxes) i) (getD (σ .counts) i 0)) (area (leftBox σ i)) (leftCount σ i) i
+unfoldable pub sweepAt : Bins → ℕ → Sweep → Sweep
+sweepAt σ i s = choose (takeBin s (boxAt (σ .boxes) i) (getD (σ .counts) i 0)) (area (leftBox σ i)) (leftCount σ i) i
 
 unfoldable pub sweepFrom : Bins → ℕ → Sweep → Sweep  -- splits k, k - 1, .., 1
 sweepFrom σ zero s = s
-sweepFrom σ (suc k) s = sweepFrom σ k (stepAt σ (suc k) s)
+sweepFrom σ (suc k) s = sweepFrom σ k (sweepAt σ (suc k) s)
 
 abbrev pub noSweep : Sweep
 noSweep = record { hull = nowhere; count = 0; cost = greatest; split = 6 }

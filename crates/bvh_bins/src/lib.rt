@@ -5,7 +5,7 @@ ghost use lib.ListN.{length, getD, set, replicate};
 ghost use Rattle.words.specs.Lists.{listFrom};
 ghost use Rattle.bvh_boxes.specs.Boxes.{nowhere, merge, boxAt};
 ghost use Rattle.bvh_range.specs.Range.{members};
-ghost use Rattle.bvh_range.specs.Inside.Table.{tableBoxes, boxIn};
+ghost use Rattle.bvh_range.specs.Inside.Table.{tableBoxes, boxOfRow};
 ghost use Rattle.bvh_range.specs.Inside.Numbers.{Numbers};
 ghost use Rattle.bvh_bins.specs.Bins.{gridOf, binAt, binOf, plus, noBins, binsFrom, area};
 ghost use Rattle.bvh_bins.specs.Bins.{costOf, choose, takeBin, splitBy};
@@ -118,7 +118,7 @@ fn count_in(n: &mut [u32; 12], k: usize)
 fn drop_in(t: &mut [f32; 96], n: &mut [u32; 12], k: usize, b: Row)
     ensures { λ _. ⌜ (Numbers (boxAt (tableBoxes (now (t .entry))) k)
         → tableBoxes (now (t .exit)) ≡ set (tableBoxes (now (t .entry))) k
-        (merge (boxAt (tableBoxes (now (t .entry))) k) (boxIn b)))
+        (merge (boxAt (tableBoxes (now (t .entry))) k) (boxOfRow b)))
         × (now (n .exit) ≡ set (now (n .entry)) k (plus (getD (now (n .entry)) k 0) 1)) ⌝ }
 {
     count_in(n, k);

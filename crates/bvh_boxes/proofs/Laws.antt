@@ -12,7 +12,7 @@ use Rattle.scalar.specs.Ranges.{between, magnitude}
 use Rattle.vec.specs.Vec.{vsplat, vmin, vmax}
 use Rattle.sdf.specs.declared.Aabb.{Aabb}
 use Rattle.refusals.specs.Ranges.{greatest, within}
-use Rattle.bvh_boxes.specs.Boxes.{finiteBox, atMost, inside, nowhere, merge, boxAt}
+use Rattle.bvh_boxes.specs.Boxes.{finiteBox, allAtMost, inside, nowhere, merge, boxAt}
 use Rattle.bvh_boxes.specs.Inside.Hulls.{hullFrom}
 use Rattle.bvh_boxes.proofs.Vectors.{Below, Finite, below-of, of-below, finite-of, of-finite, at-least}
 use Rattle.bvh_boxes.proofs.Vectors.{at-most}
@@ -24,16 +24,16 @@ use Rattle.bvh_boxes.proofs.Vectors.{vmax-finite}
 module _ (a b : Aabb) (h : T (inside a b)) where
   pub inside-lo : Below (b .lo) (a .lo)
   unfolding inside
-  inside-lo = below-of (b .lo) (a .lo) (and-l (atMost (b .lo) (a .lo)) (atMost (a .hi) (b .hi)) h)
+  inside-lo = below-of (b .lo) (a .lo) (and-l (allAtMost (b .lo) (a .lo)) (allAtMost (a .hi) (b .hi)) h)
 
   pub inside-hi : Below (a .hi) (b .hi)
   unfolding inside
-  inside-hi = below-of (a .hi) (b .hi) (and-r (atMost (b .lo) (a .lo)) (atMost (a .hi) (b .hi)) h)
+  inside-hi = below-of (a .hi) (b .hi) (and-r (allAtMost (b .lo) (a .lo)) (allAtMost (a .hi) (b .hi)) h)
 
 inside-by : (a b : Aabb) → Below (b .lo) (a .lo) → Below (a .hi) (b .hi) → T (inside a b)
 unfolding inside
 inside-by a b h k =
-    and-i (atMost (b .lo) (a .lo)) (atMost (a .hi) (b .hi)) (of-below (b .lo) (a .lo) h) (of-below (a .hi) (b .hi) k)
+    and-i (allAtMost (b .lo) (a .lo)) (allAtMost (a .hi) (b .hi)) (of-below (b .lo) (a .lo) h) (of-below (a .hi) (b .hi) k)
 
 module _ (a : Aabb) (h : T (finiteBox a)) where
   pub finite-lo : Finite (a .lo)

@@ -14,7 +14,7 @@ use Rattle.float_order.specs.Inside.Order.{number}
 use Rattle.float_order.proofs.Order.{is-yes, is-not, number-eq, le-right, le-refl, le-trans, lt-not-le}
 use Rattle.float_order.proofs.Extremes.{fmin-either, fmin-left, fmin-right, fmin-greatest, fmax-either, fmax-left}
 use Rattle.float_order.proofs.Extremes.{fmax-right, fmax-least}
-use Rattle.bvh_boxes.specs.Boxes.{atMost}
+use Rattle.bvh_boxes.specs.Boxes.{allAtMost}
 
 -- ---- three tests
 pub record Three (p q r : Bool) : Type 0 where
@@ -39,12 +39,12 @@ Numbers a = Three (number (a .x)) (number (a .y)) (number (a .z))
 abbrev pub Finite : Vec3 → Type 0
 Finite a = Three (magnitude (a .x) greatest) (magnitude (a .y) greatest) (magnitude (a .z) greatest)
 
-pub below-of : (a b : Vec3) → T (atMost a b) → Below a b
-unfolding atMost
+pub below-of : (a b : Vec3) → T (allAtMost a b) → Below a b
+unfolding allAtMost
 below-of a b = three _ _ _
 
-pub of-below : (a b : Vec3) → Below a b → T (atMost a b)
-unfolding atMost
+pub of-below : (a b : Vec3) → Below a b → T (allAtMost a b)
+unfolding allAtMost
 of-below a b = of-three _ _ _
 
 pub finite-of : (a : Vec3) → T (within a greatest) → Finite a

@@ -15,11 +15,11 @@ use Rattle.plan.specs.Plan.{Piece, Plan}
 unfoldable pub finiteBox : Aabb → Bool  -- "All corners are finite"
 finiteBox b = within (b .lo) greatest && within (b .hi) greatest
 
-unfoldable pub atMost : Vec3 → Vec3 → Bool
-atMost a b = le (a .x) (b .x) && (le (a .y) (b .y) && le (a .z) (b .z))
+unfoldable pub allAtMost : Vec3 → Vec3 → Bool
+allAtMost a b = le (a .x) (b .x) && (le (a .y) (b .y) && le (a .z) (b .z))
 
 unfoldable pub inside : Aabb → Aabb → Bool  -- the box a lies within the box b
-inside a b = atMost (b .lo) (a .lo) && atMost (a .hi) (b .hi)
+inside a b = allAtMost (b .lo) (a .lo) && allAtMost (a .hi) (b .hi)
 
 abbrev pub nowhere : Aabb  -- the least box around many: from f32::MAX down and from f32::MIN up
 nowhere = record { lo = vsplat greatest; hi = vsplat (neg greatest) }

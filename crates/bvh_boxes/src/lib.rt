@@ -1,7 +1,7 @@
 // Boxes in order, and the boxes of a plan's objects.
 ghost use mathlib.Core.Path.{_≡_};
 ghost use Rattle.plan.specs.Plan.{planOf};
-ghost use Rattle.bvh_boxes.specs.Boxes.{finiteBox, atMost, inside, nowhere, merge, noBox, boxAt, boxesOf};
+ghost use Rattle.bvh_boxes.specs.Boxes.{finiteBox, allAtMost, inside, nowhere, merge, noBox, boxAt, boxesOf};
 use sdf::Aabb;
 use vec::Vec3;
 
@@ -15,7 +15,7 @@ pub fn finite(b: Aabb) -> bool
 }
 
 fn at_most(a: Vec3, b: Vec3) -> bool
-    ensures { λ r. ⌜ r ≡ atMost a b ⌝ }
+    ensures { λ r. ⌜ r ≡ allAtMost a b ⌝ }
 {
     refusals::both(a.x <= b.x, refusals::both(a.y <= b.y, a.z <= b.z))
 }

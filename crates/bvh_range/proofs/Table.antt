@@ -17,7 +17,7 @@ use Rattle.words.proofs.Laws.{less-or}
 use Rattle.words.proofs.Runs.{getD-from, getD-past, length-from}
 use Rattle.bvh_boxes.specs.Boxes.{boxAt, noBox}
 use Rattle.bvh_range.specs.declared.Row.{Row}
-use Rattle.bvh_range.specs.Inside.Table.{tableBox, tableBoxes, boxIn, putRow, rowFor, putBox}
+use Rattle.bvh_range.specs.Inside.Table.{tableBox, tableBoxes, boxOfRow, withRow, rowFor, putBox}
 
 pub same-or : (i j : ℕ) → (i ≡ j) ⊎ (i ≡ j → ⊥)
 same-or i j =
@@ -46,8 +46,8 @@ eight r =
 abbrev with : List Float → ℕ → Row → List Float
 with f p r = take p f ++ (eight r ++ drop (p + 8) f)
 
-put-in : (f : List Float) (k : ℕ) (r : Row) → k < length f / 8 → putRow f k r ≡ with f (8 * k) r
-unfolding putRow
+put-in : (f : List Float) (k : ℕ) (r : Row) → k < length f / 8 → withRow f k r ≡ with f (8 * k) r
+unfolding withRow
 put-in f k r h =
     let fit : 8 * k + 8 ≤ length f = omega arith in
     let e2 : 8 * k + 2 ≡ suc (suc (8 * k)) = omega arith in
@@ -59,8 +59,8 @@ put-in f k r h =
     rw (lt-ltb k (length f / 8) h, add-one (8 * k), e2, e3, e4, e5, e6, e7)
     (sets-eq (eight r) f (8 * k) fit ∙ append-assoc (take (8 * k) f) (eight r) (drop (8 * k + 8) f))
 
-pub put-out : (f : List Float) (k : ℕ) (r : Row) → length f / 8 ≤ k → putRow f k r ≡ f
-unfolding putRow
+pub put-out : (f : List Float) (k : ℕ) (r : Row) → length f / 8 ≤ k → withRow f k r ≡ f
+unfolding withRow
 put-out f k r h = rw (le-ltb k (length f / 8) h)
 
 module _ (f : List Float) (p : ℕ) (r : Row) (fit : p + 8 ≤ length f) where
@@ -94,13 +94,13 @@ module _ (f : List Float) (p : ℕ) (r : Row) (fit : p + 8 ≤ length f) where
       subst (λ (i : ℕ). getD (with f p r) i nan ≡ getD f i nan) e (after (j - (p + 8))))
       h
 
-pub length-put-row : (f : List Float) (k : ℕ) (r : Row) → length (putRow f k r) ≡ length f
+pub length-put-row : (f : List Float) (k : ℕ) (r : Row) → length (withRow f k r) ≡ length f
 length-put-row f k r =
     ⊎-elim (λ h. rw (put-in f k r h) (length-with f (8 * k) r (omega arith))) (λ h. rw (put-out f k r h))
     (less-or k (length f / 8))
 
 -- ---- a box put is read back, and no other changes
-box-same : (f : List Float) (k : ℕ) (r : Row) → k < length f / 8 → tableBox (with f (8 * k) r) k ≡ boxIn r
+box-same : (f : List Float) (k : ℕ) (r : Row) → k < length f / 8 → tableBox (with f (8 * k) r) k ≡ boxOfRow r
 box-same f k r h =
     let g = inner f (8 * k) r (omega arith) in
     rw (rw add-zero at (g 0), g 1, g 2, g 4, g 5, g 6)
@@ -124,27 +124,27 @@ box-other f k j r h n =
     ne : k ≤ j → k < j
     ne l = ⊎-elim (λ q. q) (λ q. absurd (n (omega arith))) (less-or k j)
 
-pub rows-put : (f : List Float) (k : ℕ) (r : Row) → tableBoxes (putRow f k r) ≡ set (tableBoxes f) k (boxIn r)
+pub rows-put : (f : List Float) (k : ℕ) (r : Row) → tableBoxes (withRow f k r) ≡ set (tableBoxes f) k (boxOfRow r)
 rows-put f k r =
     ⊎-elim inside (λ h. ap tableBoxes (put-out f k r h) ∙ sym
-    (set-out (tableBoxes f) k (boxIn r) (omega (arith, box-count f)))) (less-or k (length f / 8))
+    (set-out (tableBoxes f) k (boxOfRow r) (omega (arith, box-count f)))) (less-or k (length f / 8))
   where
-    inside : k < length f / 8 → tableBoxes (putRow f k r) ≡ set (tableBoxes f) k (boxIn r)
+    inside : k < length f / 8 → tableBoxes (withRow f k r) ≡ set (tableBoxes f) k (boxOfRow r)
     inside h =
         let fit : 8 * k + 8 ≤ length f = omega arith in
         let w = with f (8 * k) r in
         let l : length w / 8 ≡ length f / 8 = ap (λ (n : ℕ). n / 8) (length-with f (8 * k) r fit) in
         ap tableBoxes (put-in f k r h)
-        ∙ ext-getD noBox (tableBoxes w) (set (tableBoxes f) k (boxIn r))
-        (box-count w ∙ l ∙ sym (box-count f) ∙ sym (length-set (tableBoxes f) k (boxIn r)))
+        ∙ ext-getD noBox (tableBoxes w) (set (tableBoxes f) k (boxOfRow r))
+        (box-count w ∙ l ∙ sym (box-count f) ∙ sym (length-set (tableBoxes f) k (boxOfRow r)))
         (λ i q.
         let u : i < length f / 8 = omega (arith, box-count w) in
         box-here w i (omega arith)
         ∙ ⊎-elim
         (λ e. ap (tableBox w) e ∙ box-same f k r h ∙ sym
-        (ap (λ (j : ℕ). boxAt (set (tableBoxes f) k (boxIn r)) j) e ∙ getD-set-same (tableBoxes f) k (boxIn r) noBox
+        (ap (λ (j : ℕ). boxAt (set (tableBoxes f) k (boxOfRow r)) j) e ∙ getD-set-same (tableBoxes f) k (boxOfRow r) noBox
         (omega (arith, box-count f))))
-        (λ n. box-other f k i r h n ∙ sym (getD-set-other (tableBoxes f) k i (boxIn r) noBox n ∙ box-here f i u))
+        (λ n. box-other f k i r h n ∙ sym (getD-set-other (tableBoxes f) k i (boxOfRow r) noBox n ∙ box-here f i u))
         (same-or i k))
 
 -- ---- a box put

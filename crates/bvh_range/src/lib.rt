@@ -5,7 +5,7 @@ ghost use Rattle.scalar.specs.F32.{f0, fhalf};
 ghost use Rattle.vec.specs.Vec.{vadd, vscale, vmin, vmax};
 ghost use Rattle.bvh_boxes.specs.Boxes.{nowhere, merge, boxAt};
 ghost use Rattle.bvh_range.specs.Range.{point, spanOf, extentOf, axisOf, stops};
-ghost use Rattle.bvh_range.specs.Inside.Table.{tableBoxes, corner, boxIn, putRow, putBox};
+ghost use Rattle.bvh_range.specs.Inside.Table.{tableBoxes, corner, boxOfRow, withRow, putBox};
 ghost use Rattle.bvh_range.specs.Inside.Numbers.{lesserOf, greaterOf, Three, Numbers};
 use sdf::Aabb;
 use vec::Vec3;
@@ -97,7 +97,7 @@ fn halfway(a: Four, b: Four) -> Four
 
 // The least box around both, for an a whose corners are numbers.
 pub fn join(a: Row, b: Row) -> Row
-    ensures { λ r. ⌜ (Numbers (boxIn a) → boxIn r ≡ merge (boxIn a) (boxIn b)) ⌝ }
+    ensures { λ r. ⌜ (Numbers (boxOfRow a) → boxOfRow r ≡ merge (boxOfRow a) (boxOfRow b)) ⌝ }
 {
     Row {
         lo: lower(a.lo, b.lo),
@@ -124,14 +124,14 @@ pub fn wider(a: Aabb, b: Aabb) -> Aabb
 }
 
 fn middle(b: Row) -> Row
-    ensures { λ r. ⌜ boxIn r ≡ point (boxIn b) ⌝ }
+    ensures { λ r. ⌜ boxOfRow r ≡ point (boxOfRow b) ⌝ }
 {
     let c = halfway(b.lo, b.hi);
     Row { lo: c, hi: c }
 }
 
 pub fn no_row() -> Row
-    ensures { λ r. ⌜ boxIn r ≡ nowhere ⌝ }
+    ensures { λ r. ⌜ boxOfRow r ≡ nowhere ⌝ }
 {
     Row {
         lo: splat(refusals::GREATEST),
@@ -140,7 +140,7 @@ pub fn no_row() -> Row
 }
 
 pub fn box_in(r: Row) -> Aabb
-    ensures { λ r'. ⌜ r' ≡ boxIn r ⌝ }
+    ensures { λ r'. ⌜ r' ≡ boxOfRow r ⌝ }
 {
     let lo = r.lo;
     let hi = r.hi;
@@ -160,7 +160,7 @@ pub fn box_in(r: Row) -> Aabb
 
 // Box k of a table; past the last one what lies within no box.
 pub fn row_at(t: &[f32], k: usize) -> Row
-    ensures { λ r. ⌜ boxIn r ≡ boxAt (tableBoxes (now (t .entry))) k ⌝ }
+    ensures { λ r. ⌜ boxOfRow r ≡ boxAt (tableBoxes (now (t .entry))) k ⌝ }
 {
     if k < t.len() / BOX_FLOATS {
         let i = BOX_FLOATS * k;
@@ -190,7 +190,7 @@ pub fn box_at(t: &[f32], k: usize) -> Aabb
 }
 
 pub fn put_row(t: &mut [f32], k: usize, r: Row)
-    ensures { λ _. ⌜ now (t .exit) ≡ putRow (now (t .entry)) k r ⌝ }
+    ensures { λ _. ⌜ now (t .exit) ≡ withRow (now (t .entry)) k r ⌝ }
 {
     if k < t.len() / BOX_FLOATS {
         let i = BOX_FLOATS * k;
@@ -238,7 +238,7 @@ fn object_at(os: &[u32], i: usize) -> u32
 
 // The box of the object at a place of a range.
 pub fn member(os: &[u32], t: &[f32], i: usize) -> Row
-    ensures { λ r. ⌜ boxIn r ≡ boxAt (tableBoxes (now (t .entry))) (getD (now (os .entry)) i 0) ⌝ }
+    ensures { λ r. ⌜ boxOfRow r ≡ boxAt (tableBoxes (now (t .entry))) (getD (now (os .entry)) i 0) ⌝ }
 {
     row_at(t, object_at(os, i) as usize)
 }

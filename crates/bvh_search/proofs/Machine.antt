@@ -34,7 +34,7 @@ use Rattle.bvh_search.specs.Inside.Machine.{
   childrenOf,
   scannedOf,
   openedOf,
-  steppedOf,
+  stepOf,
 }
 use Rattle.root_tests.specs.Inside.Tests.{farOff, leftFirst, limitOf}
 use Rattle.bvh_search.proofs.Leaves.{places-few}
@@ -309,9 +309,9 @@ module _ (nw : List ℕ) (nf : List Float) (o : List ℕ) (w : List ℕ) (f : Li
           (λ g. either Popped (eqb (v .count) 0) _ _ (both e g) (leafed e g))
           (past e)
 
-      stepped : Popped (steppedOf nw nf o w f p stack keys s)
-      unfolding steppedOf
+      stepped : Popped (stepOf nw nf o w f p stack keys s)
+      unfolding stepOf
       stepped = either Popped (farOff (s .key) (s .hit .d)) _ _ skipped opened-law
 
-      pub step-law : (t : Tables) → t ≡ steppedOf nw nf o w f p stack keys s → After (s .popped + 1) t
+      pub step-law : (t : Tables) → t ≡ stepOf nw nf o w f p stack keys s → After (s .popped + 1) t
       step-law t e = subst Popped (sym e) stepped

@@ -15,7 +15,7 @@ ghost use Rattle.bvh_search.specs.Search.{pieceIn, leafScan, placesOf, r
 ghost use Rattle.bvh_search.specs.Field.{hitBy, fieldBy};
 ghost use Rattle.bvh_search.specs.Inside.Machine.{boxSquare, holding, ended, popping, nextOf, scannedOf};
 ghost use Rattle.bvh_search.specs.Inside.Machine.{tables, squareAt, squaresAt};
-ghost use Rattle.bvh_search.specs.Inside.Machine.{childrenOf, openedOf, steppedOf};
+ghost use Rattle.bvh_search.specs.Inside.Machine.{childrenOf, openedOf, stepOf};
 use bvh_rules::Node;
 use plan::DistHit;
 use plan::Floats;
@@ -333,7 +333,7 @@ fn opened(
 fn step(ws: &Words, fs: &Floats, p: Vec3, stack: &mut Stack, keys: &mut Keys, s: State) -> State
     ensures { λ x. ⌜ (s .lim ≡ limitOf (s .hit .d) → T (fits binary32 (s .key))
         → tables (now (stack .exit)) (now (keys .exit)) x
-        ≡ steppedOf (nodesOf (now (ws .entry))) (nodesOf (now (fs .entry))) (orderOf (now (ws .entry)))
+        ≡ stepOf (nodesOf (now (ws .entry))) (nodesOf (now (fs .entry))) (orderOf (now (ws .entry)))
         (now (ws .entry)) (now (fs .entry)) p (now (stack .entry)) (now (keys .entry)) s) ⌝ }
 {
     let hit = s.hit;

@@ -11,7 +11,7 @@ use Rattle.plan_test.specs.Tests.{solidsOf}
 use Rattle.plan_write.specs.Written.{argCuts, sectionOf, withPiece}
 use Rattle.plan_entry.specs.declared.Added.{Added}
 use Rattle.plan_entry.specs.Entry.{pieceNumber, newPlace}
-use Rattle.plan_entry.specs.Inside.Adds.{addedOf, Enters, AddsPiece}
+use Rattle.plan_entry.specs.Inside.Adds.{addedOf, AddsOne, AddsPiece}
 
 pub adds-piece
     : (before : ℕ) (among : Bool) {w : List ℕ} (f : List Float)
@@ -31,5 +31,5 @@ pub enters
     → m ≡ number
     → r ≡ addedOf m index
     → w′ ≡ cond (eqb m 0) left w
-    → Enters number index w left r w′
+    → AddsOne number index w left r w′
 enters q a l = record { answer = rw (a, q); table = rw (l, q) }

@@ -11,7 +11,7 @@ use Rattle.words.proofs.Runs.{all-map}
 use Rattle.refusals.specs.Refusals.{lower}
 use Rattle.refusals.proofs.Lowest.{lower-zero, lower-none}
 use Rattle.bvh_search.specs.Demand.{In}
-use Rattle.promises.specs.Lowest.{lowestIn, Least, LowestIn}
+use Rattle.promises.specs.Lowest.{lowestIn, NoLower, LowestIn}
 
 -- none of two numbers applies and n is 0; or n is one that applies, and none that applies is lower
 pub record Lowest (a b n : ℕ) : Type 0 where
@@ -92,7 +92,7 @@ pub lowest-in-only : (ns : List ℕ) {n m : ℕ} → LowestIn ns n → LowestIn 
 lowest-in-only ns x y = omega (arith, not-above ns x y, not-above ns y x)
 
 -- a number is sent exactly when it applies and no lower one does
-pub given-exactly : (ns : List ℕ) (k : ℕ) → 0 < k → (lowestIn ns ≡ k) ↔ (In k ns × Least ns k)
+pub given-exactly : (ns : List ℕ) (k : ℕ) → 0 < k → (lowestIn ns ≡ k) ↔ (In k ns × NoLower ns k)
 given-exactly ns k h = (
   λ e. let l = subst (LowestIn ns) e (lowest-in ns) in (l .one h, l .least),
   λ p.

@@ -22,11 +22,11 @@ abbrev pub objectCount : List ℕ → ℕ
 objectCount plan = length (planAt plan .objects)
 
 -- ---- a tree's nodes, as words and as floats, and its order
-abbrev pub nodeWords : List ℕ → List ℕ
-nodeWords nodes = wordsOf nodes nodesWords
+abbrev pub wordsOfNodes : List ℕ → List ℕ
+wordsOfNodes nodes = wordsOf nodes nodesWords
 
 abbrev pub nodeFloats : List ℕ → List Float
-nodeFloats nodes = floatsOf (nodeWords nodes) nodesWords
+nodeFloats nodes = floatsOf (wordsOfNodes nodes) nodesWords
 
 abbrev pub orderWords : List ℕ → List ℕ
 orderWords order = wordsOf order orderPlaces
@@ -34,15 +34,15 @@ orderWords order = wordsOf order orderPlaces
 -- the bytes hold the tree t for the plan's objects: by every rule but depth, by every rule
 abbrev pub HoldsTree : List ℕ → List ℕ → List ℕ → Tree → Type 0
 HoldsTree plan nodes order t =
-    Holds (nodeWords nodes) (nodeFloats nodes) (orderWords order) (boxesOf (planAt plan)) t
+    Holds (wordsOfNodes nodes) (nodeFloats nodes) (orderWords order) (boxesOf (planAt plan)) t
 
 abbrev pub AcceptedTree : List ℕ → List ℕ → List ℕ → Tree → Type 0
 AcceptedTree plan nodes order t =
-    Accepted (nodeWords nodes) (nodeFloats nodes) (orderWords order) (boxesOf (planAt plan)) t
+    Accepted (wordsOfNodes nodes) (nodeFloats nodes) (orderWords order) (boxesOf (planAt plan)) t
 
 abbrev pub TreeRules : List ℕ → List ℕ → List ℕ → Type 0  -- the bytes meet the tree rules: with no objects any do
 TreeRules plan nodes order =
-    MeetsRules (nodeWords nodes) (nodeFloats nodes) (orderWords order) (boxesOf (planAt plan))
+    MeetsRules (wordsOfNodes nodes) (nodeFloats nodes) (orderWords order) (boxesOf (planAt plan))
 
 -- ---- tables of full size
 abbrev pub FullPlan : List ℕ → Type 0

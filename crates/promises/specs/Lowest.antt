@@ -12,11 +12,11 @@ unfoldable pub lowestIn : List ℕ → ℕ
 lowestIn [] = 0
 lowestIn (n ∷ ns) = lower n (lowestIn ns)
 
-abbrev pub Least : List ℕ → ℕ → Type 0  -- no number of the list that applies is below n
-Least ns n = All (λ (m : ℕ). 0 < m → n ≤ m) ns
+abbrev pub NoLower : List ℕ → ℕ → Type 0  -- no number of the list that applies is below n
+NoLower ns n = All (λ (m : ℕ). 0 < m → n ≤ m) ns
 
 -- none applies and n is 0; or n is one that applies, and none that applies is lower
 pub record LowestIn (ns : List ℕ) (n : ℕ) : Type 0 where
   pub none : (n ≡ 0) ↔ All (λ (m : ℕ). m ≡ 0) ns
   pub one : 0 < n → In n ns
-  pub least : Least ns n
+  pub least : NoLower ns n

@@ -16,11 +16,11 @@ use Rattle.quad.specs.Quad.{edge1, edge2, spanned}
 abbrev pub along : Vec3 → Vec3 → Float  -- how far d goes along the edge e, from 0 to 1
 along d e = vdot d e ⊘ vdot e e
 
-unfoldable pub within : Vec3 → Vec3 → Bool
-within d e = between f0 (along d e) f1
+unfoldable pub withinEdge : Vec3 → Vec3 → Bool
+withinEdge d e = between f0 (along d e) f1
 
 unfoldable pub insideOf : Quad → Vec3 → Float → Crossing
-insideOf q p t = cond (within p (edge1 q) && within p (edge2 q)) (At t) Apart
+insideOf q p t = cond (withinEdge p (edge1 q) && withinEdge p (edge2 q)) (At t) Apart
 
 unfoldable pub aheadOf : Quad → Vec3 → Vec3 → Float → Crossing
 aheadOf q ro rd t = cond (lt t f1e-4) Apart (insideOf q (vsub (vadd ro (vscale rd t)) (q .v0)) t)

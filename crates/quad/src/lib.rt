@@ -1,7 +1,7 @@
 // Four corners in space: a panel's centre, normal and area, where a ray meets it, and its point nearest to another.
 ghost use mathlib.Core.Path.{_≡_};
 ghost use Rattle.quad.specs.Quad.{spanned, centerOf, normalOf, areaOf};
-ghost use Rattle.quad.specs.Meets.{within, insideOf, aheadOf, intersectOf, closestOf};
+ghost use Rattle.quad.specs.Meets.{withinEdge, insideOf, aheadOf, intersectOf, closestOf};
 use vec::Vec3;
 
 // Corners counter-clockwise, seen from the emitting side; they need not lie in one plane.
@@ -20,7 +20,7 @@ pub enum Crossing {
 
 // Whether p, seen from an edge's start, lies along the edge e.
 fn within(p: Vec3, e: Vec3) -> bool
-    ensures { λ r. ⌜ r ≡ within p e ⌝ }
+    ensures { λ r. ⌜ r ≡ withinEdge p e ⌝ }
 {
     scalar::between(0.0, p.dot(e) / e.dot(e), 1.0)
 }

@@ -24,7 +24,7 @@ use Rattle.float_order.proofs.Rounding.{round-neg, round-zero, zero-le-zero, ze
 use Rattle.float_order.proofs.Rounding.{add-plus-number, sub-mono, sub-number', mul-mono, mul-plus, square-mono}
 use Rattle.float_order.proofs.Rounding.{square-up, square-neg, zero-zero, finite-mul-number, sum-numbers, less-numbers}
 use Rattle.float_order.proofs.Roots.{root-fits}
-use Rattle.sdf_caps.specs.Inside.Caps.{sq, lesser, notBelow, pastEnd, cbxAt, coneSquare, coneFrom, Ends, Sides}
+use Rattle.sdf_caps.specs.Inside.Caps.{sq, lesser, notBelow, pastEnd, cbxAt, coneSquare, coneBy, Ends, Sides}
 use Rattle.sdf_caps.proofs.Laws.{above, opened, once, root-reach, square-above, finite-root, sum-finite}
 use Rattle.sdf_caps.proofs.Laws.{zero-sum, zero-square}
 
@@ -416,7 +416,7 @@ pub by-bounds
     : (x paba cay b ra rb rba z e w t : Float) → Ends paba cay e → Sides x ra rb rba z → T (lt f0 w)
     → T (finite b) × T (lt f0 b) × T (number cay) × T (le t w)
     → T (finite (rootOf (sq z ⊕ sq e ⊗ b))) × T (le w (rootOf (sq z ⊕ sq e ⊗ b)))
-    → T (le t (coneFrom x paba cay b ra rb rba))
+    → T (le t (coneBy x paba cay b ra rb rba))
 by-bounds x paba cay b ra rb rba z e w t ends sides low sure reach =
     let l = sq z ⊕ sq e ⊗ b in
     let fl : T (fits binary32 l) = add-fits binary32 (sq z) (sq e ⊗ b) in
@@ -444,7 +444,7 @@ pub by-square
     : (x paba cay b ra rb rba d s w t : Float) → d ≡ coneSquare x paba cay b ra rb rba
     → s ≡ coneSign (cbxAt x ra rba (coneFoot x paba b ra rba)) cay → T (lt f0 w)
     → T (finite (rootOf d)) × T (le w (rootOf d)) → lt f0 s ≡ true → le t w ≡ true
-    → T (le t (coneFrom x paba cay b ra rb rba))
+    → T (le t (coneBy x paba cay b ra rb rba))
 by-square x paba cay b ra rb rba d s w t ed es low reach h k =
     let q = coneSquare x paba cay b ra rb rba in
     let c = coneSign (cbxAt x ra rba (coneFoot x paba b ra rba)) cay in

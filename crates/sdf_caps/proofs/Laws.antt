@@ -25,7 +25,7 @@ use Rattle.float_order.proofs.Rounding.{div-number, square-mono, square-plus}
 use Rattle.float_order.proofs.Roots.{root-fits}
 use Rattle.root_tests.specs.Inside.Tests.{most}
 use Rattle.root_tests.proofs.Squares.{root-le, positive-clear}
-use Rattle.sdf_caps.specs.Inside.Caps.{outside, squareAt, rooted, cylinderAt}
+use Rattle.sdf_caps.specs.Inside.Caps.{outside, signedSquare, rooted, cylinderAt}
 
 -- ---- zero
 pub zero-sum : zeroF ⊕ zeroF ≡ zeroF
@@ -266,12 +266,12 @@ by-bound q y b rb t w z by e h up far reach =
     (square-above l l w fl fl (r .0) (r .1) (opened w up) (le-refl l (finite-number l f)))) up far r
 
 pub square-is
-    : (d q y b rb r by : Float) → d ≡ squareAt (r ⊖ rb) y (y ⊗ y ⊗ b) by → r ≡ rootOf q
+    : (d q y b rb r by : Float) → d ≡ signedSquare (r ⊖ rb) y (y ⊗ y ⊗ b) by → r ≡ rootOf q
     → by ≡ beyond y (y ⊗ y ⊗ b) → d ≡ cylinderSquare (rootOf q ⊖ rb) y b
 unfolding cylinderSquare
 square-is d q y b rb r by h er eb =
-    h ∙ ap (λ (z : Float). squareAt (z ⊖ rb) y (y ⊗ y ⊗ b) by) er
-    ∙ ap (λ (z : Float). squareAt (rootOf q ⊖ rb) y (y ⊗ y ⊗ b) z) eb
+    h ∙ ap (λ (z : Float). signedSquare (z ⊖ rb) y (y ⊗ y ⊗ b) by) er
+    ∙ ap (λ (z : Float). signedSquare (rootOf q ⊖ rb) y (y ⊗ y ⊗ b) z) eb
 
 pub by-square
     : (d q y b rb t w : Float) → d ≡ cylinderSquare (rootOf q ⊖ rb) y b → T (lt f0 w)

@@ -10,8 +10,8 @@ ghost use Rattle.scalar.specs.F32.{_⊖_, _⊗_, _⊘_, f0};
 ghost use Rattle.sdf.specs.Shapes.{beyond, cylinderBody, cylinder, coneEnd, coneFoot, coneSign, coneBody, cone};
 ghost use Rattle.float_order.specs.Inside.Order.{number};
 ghost use Rattle.sdf_near.specs.Inside.Near.{Near};
-ghost use Rattle.sdf_caps.specs.Inside.Caps.{outside, squareAt, cylinderAt, lesser, notBelow, pastEnd};
-ghost use Rattle.sdf_caps.specs.Inside.Caps.{cayOf, coneFrom, Ends, Sides};
+ghost use Rattle.sdf_caps.specs.Inside.Caps.{outside, signedSquare, cylinderAt, lesser, notBelow, pastEnd};
+ghost use Rattle.sdf_caps.specs.Inside.Caps.{cayOf, coneBy, Ends, Sides};
 use vec::Vec3;
 
 // A guess as it is, or as little as it may be where it is not above zero.
@@ -59,7 +59,7 @@ fn over(q: f32, rb: f32, v: f32) -> f32
 
 // The signed square of the distance, from how far p is outside the side (x) and the caps (y).
 fn square(x: f32, y: f32, y2: f32, by: f32) -> f32
-    ensures { λ d. ⌜ d ≡ squareAt x y y2 by ⌝ }
+    ensures { λ d. ⌜ d ≡ signedSquare x y y2 by ⌝ }
 {
     let x2 = x * x;
     if scalar::max(x, y) < 0.0 {
@@ -226,7 +226,7 @@ fn cone_from(
     w: f32,
     t: f32,
 ) -> f32
-    ensures { λ d. ⌜ (T (lt f0 w) → Near t (coneFrom x paba cay baba ra rb rba) d) ⌝ }
+    ensures { λ d. ⌜ (T (lt f0 w) → Near t (coneBy x paba cay baba ra rb rba) d) ⌝ }
 {
     let cax = scalar::max(0.0, x - cone_end(paba, ra, rb));
     let f = cone_foot(x, paba, baba, ra, rba);
@@ -246,7 +246,7 @@ fn cone_from(
 
 // By the square of a lower bound first.
 fn cone_at(g: f32, paba: f32, baba: f32, ra: f32, rb: f32, t: f32) -> f32
-    ensures { λ x. ⌜ Near t (coneFrom (rootOf g) paba (cayOf paba) baba ra rb (rb ⊖ ra)) x ⌝ }
+    ensures { λ x. ⌜ Near t (coneBy (rootOf g) paba (cayOf paba) baba ra rb (rb ⊖ ra)) x ⌝ }
 {
     let w = above_zero(t);
     let rba = rb - ra;

@@ -32,10 +32,10 @@ divided-number (inf s) m h = tt
 divided-number (fin s n e) m h = tt
 
 -- r reaches w, and k * w / m is more than res
-pub kept
+pub undimmed
     : (res r k m w : Float) → lt f0 w ≡ true → le f0 k ≡ true → lt f0 m ≡ true → lt res (k ⊗ w ⊘ m) ≡ true
     → T (le w r) → fmin res (k ⊗ r ⊘ m) ≡ res
-kept res r k m w hw hk hm h reach =
+undimmed res r k m w hw hk hm h reach =
     ⊎-elim (λ n. more res (k ⊗ r ⊘ m) (above n)) (none res (k ⊗ r ⊘ m)) (decide (number (k ⊗ r ⊘ m)))
   where
     w-up : T (lt zeroF w)

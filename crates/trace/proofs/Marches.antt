@@ -20,7 +20,7 @@ use Rattle.trace.specs.declared.Step.the-variants.{Found, Past, On}
 use Rattle.trace.specs.declared.Traced.{Traced}
 use Rattle.trace.specs.declared.Traced.the-variants.{Met, Missed}
 use Rattle.trace.specs.Trace.{Field, traceMost, epsOf, pointAt, steppedOf, stepAt, follow, march, traceOf}
-use Rattle.trace.specs.Seen.{countOf, marchPoints, tracePoints}
+use Rattle.trace.specs.Seen.{stepsIn, marchPoints, tracePoints}
 
 pub never : {A : Type 0} → _≡_ {A = ℕ} 0 1 → A
 never e = absurd (omega arith)
@@ -113,10 +113,10 @@ module _ (field : Field) (ro rd : Vec3) (tmax : Float) where
       go false false r q = never (cc)
 
 module _ (field : Field) (ro rd : Vec3) (tmin tmax : Float) where
-  pub trace-count : countOf (traceOf field ro rd tmin tmax) ≡ length (tracePoints field ro rd tmin tmax)
+  pub trace-count : stepsIn (traceOf field ro rd tmin tmax) ≡ length (tracePoints field ro rd tmin tmax)
   unfolding traceOf tracePoints
   trace-count =
-      march-each field ro rd tmax (λ _ _ made x ps. countOf x ≡ made + length ps)
+      march-each field ro rd tmax (λ _ _ made x ps. stepsIn x ≡ made + length ps)
       (λ _ made. sym (add-zero made))
       (λ _ _ made _ _. omega arith)
       (λ _ _ made _. omega arith)

@@ -11,9 +11,9 @@ use Rattle.trace.specs.declared.Cone.{Cone}
 use Rattle.trace.specs.Trace.{Field, traceMost, pointAt, stepAt, follow}
 use Rattle.trace.specs.Shadow.{shadowMost, passAt, pass, coneFrom}
 
-abbrev pub countOf : Traced → ℕ
-countOf (Met h n) = n
-countOf (Missed n) = n
+abbrev pub stepsIn : Traced → ℕ
+stepsIn (Met h n) = n
+stepsIn (Missed n) = n
 
 unfoldable pub marchPoints : Field → Vec3 → Vec3 → Float → ℕ → Float → List Vec3
 marchPoints field ro rd tmax zero t = []

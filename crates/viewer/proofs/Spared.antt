@@ -18,7 +18,7 @@ use Rattle.plan.proofs.Rows.{Alike, Kept, kept, float-of, materials-kept, light
 use Rattle.bvh_rules.specs.Nodes.{nodesOf, orderOf, nodeAt}
 use Rattle.bvh_search.specs.Search.{pieceIn}
 use Rattle.bvh_search.proofs.Same.{Same, Trimmed}
-use Rattle.wire_used.specs.Inside.Used.{Ends, Begins, Used, Spared}
+use Rattle.wire_used.specs.Inside.Used.{EndsBy, Begins, Used, Spared}
 use Rattle.wire_used.proofs.Parts.{list-ext}
 
 -- the part of a table that has so many words from a place on
@@ -128,14 +128,14 @@ module _ (t w : List ℕ) (m : ℕ) (x : Used t w m) where
   back-row r h g = kept w t r (λ k p. x .back (16 * r + k) (omega (arith, h)) (omega (arith, g, p)))
 
   front-cuts
-      : (r : ℕ) → Ends t (x .u) r → (k : ℕ) → k < headAt t (seen t) r .cutters
+      : (r : ℕ) → EndsBy t (x .u) r → (k : ℕ) → k < headAt t (seen t) r .cutters
       → Kept w t (369 + headAt t (seen t) r .place + k)
   unfolding headAt
   front-cuts r (inl z) k h = let no : ⊥ = omega (arith, z, h) in absurd no
   front-cuts r (inr a) k h = front-row (369 + wordOf t (16 * r + 12) + k) (omega arith) (omega (arith, a, h))
 
   back-cuts
-      : (r : ℕ) → Begins t (x .v) r → Ends t 1024 r → (k : ℕ) → k < headAt t (seen t) r .cutters
+      : (r : ℕ) → Begins t (x .v) r → EndsBy t 1024 r → (k : ℕ) → k < headAt t (seen t) r .cutters
       → Kept w t (369 + headAt t (seen t) r .place + k)
   unfolding headAt
   back-cuts r (inl z) e k h = let no : ⊥ = omega (arith, z, h) in absurd no

@@ -9,7 +9,7 @@ use lib.ListN.{length, set, List·getD-eq-default, length-set}
 use lib.Seq.{getD-set-same, getD-set-other}
 use lib.Ieee.{Float, nan, binary32, ofBits}
 use Rattle.plan.specs.Records.{wordOf, floatOf}
-use Rattle.wire_used.specs.Inside.Used.{Ends, Begins, Seen}
+use Rattle.wire_used.specs.Inside.Used.{EndsBy, Begins, Seen}
 
 -- no words lie past a table
 pub word-none : (w : List ℕ) (i : ℕ) → length w ≡ 27296 → 27296 ≤ i → wordOf w i ≡ 0
@@ -23,7 +23,7 @@ one-more {P} n h last j l =
       | no g ↦ h j (omega (arith, g))
     ]
 
-pub ends-more : (w : List ℕ) (u e r : ℕ) → u ≤ e → Ends w u r → Ends w e r
+pub ends-more : (w : List ℕ) (u e r : ℕ) → u ≤ e → EndsBy w u r → EndsBy w e r
 ends-more w u e r h (inl z) = inl z
 ends-more w u e r h (inr l) = inr (omega (arith, h, l))
 

@@ -18,7 +18,7 @@ use Rattle.plan.proofs.Rows.{float-of}
 use Rattle.wire.specs.Lent.{tableOf}
 use Rattle.wire.specs.Inside.Parts.{loadedPart}
 use Rattle.wire.proofs.Loads.{table-loaded}
-use Rattle.wire_used.specs.Inside.Used.{Seen, Shown, Put, Filled, Ends, Begins, InOrder, Early, Listed}
+use Rattle.wire_used.specs.Inside.Used.{Seen, Shown, Put, Filled, EndsBy, Begins, InOrder, Early, Listed}
 use Rattle.wire_used.specs.Inside.Used.{WithCutters, Begun, Used, Spared}
 use Rattle.wire_used.proofs.Parts.{list-ext, part-long, part-before, part-in, part-after, word-drop}
 use Rattle.wire_used.proofs.Laws.{ends-more}
@@ -164,8 +164,8 @@ begun-again plan nodes t w x f g b filled =
 -- ---- what is used, after the lists
 module _ (plan nodes t w w1 w2 x : List ℕ) (f f1 f2 g : List Float) (m e n u v q : ℕ)
     (b : Begun plan nodes t w f) (o : InOrder w m) (few : wordOf w 3 ≤ m) (listed : Filled t w1 f1 (Listed t m))
-    (a1 : n ≡ wordOf w1 1) (ends : (j : ℕ) → j < m → Ends w1 u (113 + j)) (low : u ≤ 1024)
-    (planes-end : (j : ℕ) → j < n → Ends w1 q (65 + j)) (last : q ≤ 1024)
+    (a1 : n ≡ wordOf w1 1) (ends : (j : ℕ) → j < m → EndsBy w1 u (113 + j)) (low : u ≤ 1024)
+    (planes-end : (j : ℕ) → j < n → EndsBy w1 q (65 + j)) (last : q ≤ 1024)
     (e1 : e ≤ 27031) (e2 : (i : ℕ) → i < 22432 + 18 * m → i < 27031 → i < e)
     (p : Put (λ i. wordAt nodes (i - 22432)) w1 w2 f1 f2 22432 e)
     (begins : (j : ℕ) → j < n → Begins w1 v (65 + j)) (c : WithCutters (wordAt plan) w2 x f2 g u v) where

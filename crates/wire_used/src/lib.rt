@@ -13,7 +13,7 @@ ghost use Rattle.plan.specs.Sections.{tableRows, tableWords};
 ghost use Rattle.plan.specs.Records.{wordOf, floatOf};
 ghost use Rattle.plan.specs.Plan.{seen};
 ghost use Rattle.wire.specs.Lent.{tableOf, askTable};
-ghost use Rattle.wire_used.specs.Inside.Used.{Ends, Begins, InOrder, Seen, Put, Filled, Early, Listed};
+ghost use Rattle.wire_used.specs.Inside.Used.{EndsBy, Begins, InOrder, Seen, Put, Filled, Early, Listed};
 ghost use Rattle.wire_used.specs.Inside.Used.{Shown, WithCutters, Begun, Spared};
 use plan::Floats;
 use plan::Words;
@@ -48,7 +48,7 @@ fn greater(a: u32, b: u32) -> u32
 
 // Where the cutters of the piece in row r end, where it has any, and at least u.
 fn past(ws: &Words, r: usize, u: usize) -> usize
-    ensures { λ e. ⌜ (u ≤ e) × Ends (now (ws .entry)) e r ⌝ }
+    ensures { λ e. ⌜ (u ≤ e) × EndsBy (now (ws .entry)) e r ⌝ }
 {
     if r < plan::ROWS {
         let n = word_in(ws, 16 * r + 2);
@@ -67,7 +67,7 @@ fn past(ws: &Words, r: usize, u: usize) -> usize
 
 // Where the cutters of n pieces from a row on end.
 fn ends(ws: &Words, first: u32, n: u32) -> usize
-    ensures { λ e. ⌜ ((j : ℕ) → j < n → Ends (now (ws .entry)) e (first + j)) ⌝ }
+    ensures { λ e. ⌜ ((j : ℕ) → j < n → EndsBy (now (ws .entry)) e (first + j)) ⌝ }
 {
     let mut e: usize = 0;
     let mut j: u32 = 0;

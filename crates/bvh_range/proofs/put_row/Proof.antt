@@ -4,7 +4,7 @@ use borrow.Author.Needs.{needs}
 use native.Mathlib.Omega.{arith}
 use lib.ListN.{length-set}
 use borrow.Author.Tests.{lt-ltb, le-ltb}
-use Rattle.bvh_range.specs.Inside.Table.{putRow}
+use Rattle.bvh_range.specs.Inside.Table.{withRow}
 use Rattle.bvh_range.proofs.put_row.Statement.{statement}
 use Rattle.bvh_range.proofs.put_row.Tie as tie
 
@@ -33,11 +33,11 @@ same-length : tie.Need-same-length
 same-length c = simp length-set
 
 returns : tie.Need-returns
-unfolding putRow
+unfolding withRow
 returns c = simp (lt-ltb _ _ (c .if1 .taken))
 
 returns-2 : tie.Need-returns-2
-unfolding putRow
+unfolding withRow
 returns-2 c = simp (le-ltb _ _ (c .if1 .left))
 
 pub put-row-spec : {M : Type 1} → statement M

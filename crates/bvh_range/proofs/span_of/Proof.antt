@@ -4,7 +4,7 @@ use Prim.Native.Nat.{_≤_, _-_}
 use mathlib.Core.Path.{_≡_, sym, subst, _∙_}
 use native.Mathlib.Omega.{arith}
 use lib.ListN.{length, drop}
-use Rattle.bvh_range.specs.Inside.Table.{tableBoxes, boxIn}
+use Rattle.bvh_range.specs.Inside.Table.{tableBoxes, boxOfRow}
 use Rattle.bvh_range.specs.Inside.Numbers.{Numbers}
 use Rattle.bvh_range.specs.Range.{members, spanFrom, spanOf}
 use Rattle.bvh_range.proofs.Numbers.{nowhere-numbers, merge-numbers}
@@ -15,9 +15,9 @@ use Rattle.bvh_range.proofs.span_of.Tie as tie
 abbrev Inv-loop : tie.InvT-loop
 Inv-loop os t kept hull₀ centres₀ i₀ hull centres i =
     (i ≤ length os) ×
-    (spanFrom (record { hull = boxIn hull; centres = boxIn centres }) (members (tableBoxes t) (drop i os))
+    (spanFrom (record { hull = boxOfRow hull; centres = boxOfRow centres }) (members (tableBoxes t) (drop i os))
     ≡ spanOf (tableBoxes t) os) ×
-    Numbers (boxIn hull) × Numbers (boxIn centres)
+    Numbers (boxOfRow hull) × Numbers (boxOfRow centres)
 
 abbrev μ-loop : tie.MeasureT-loop
 μ-loop os t kept hull₀ centres₀ i₀ hull centres i = length os - i

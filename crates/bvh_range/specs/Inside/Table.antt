@@ -26,12 +26,12 @@ tableBoxes f = listFrom (tableBox f) 0 (length f / 8)
 abbrev pub corner : Four → Vec3  -- a row without its spares
 corner a = record { x = a .x; y = a .y; z = a .z }
 
-abbrev pub boxIn : Row → Aabb
-boxIn r = record { lo = corner (r .lo); hi = corner (r .hi) }
+abbrev pub boxOfRow : Row → Aabb
+boxOfRow r = record { lo = corner (r .lo); hi = corner (r .hi) }
 
 -- the table with a row put as box k, where it has such a place
-unfoldable pub putRow : List Float → ℕ → Row → List Float
-putRow f k r =
+unfoldable pub withRow : List Float → ℕ → Row → List Float
+withRow f k r =
     cond (ltb k (length f / 8))
     (set (set (set (set (set (set (set (set f (8 * k) (r .lo .x)) (8 * k + 1) (r .lo .y)) (8 * k + 2) (r .lo .z))
     (8 * k + 3) (r .lo .w)) (8 * k + 4) (r .hi .x)) (8 * k + 5) (r .hi .y)) (8 * k + 6) (r .hi .z)) (8 * k + 7)
@@ -46,4 +46,4 @@ rowFor b =
     }
 
 unfoldable pub putBox : List Float → ℕ → Aabb → List Float
-putBox f k b = putRow f k (rowFor b)  -- the table with box k put in place, where it has such a place
+putBox f k b = withRow f k (rowFor b)  -- the table with box k put in place, where it has such a place

@@ -18,11 +18,11 @@ use Rattle.bvh_search.specs.declared.State.{State}
 use Rattle.bvh_search.specs.declared.Pair.{Pair}
 use Rattle.bvh_search.specs.Search.{leafScan, placesOf}
 
-abbrev pub gapOf : Vec3 → Aabb → Vec3  -- the square of a box distance
-gapOf p b = vmax (vmax (vsub (b .lo) p) (vsub p (b .hi))) (vsplat f0)
+abbrev pub boxGap : Vec3 → Aabb → Vec3  -- the square of a box distance
+boxGap p b = vmax (vmax (vsub (b .lo) p) (vsub p (b .hi))) (vsplat f0)
 
 unfoldable pub boxSquare : Vec3 → Aabb → Float
-boxSquare p b = vdot (gapOf p b) (gapOf p b)
+boxSquare p b = vdot (boxGap p b) (boxGap p b)
 
 abbrev pub holding : State → ℕ → Float → ℕ → State  -- the state with the node a in hand
 holding s a key sp =
@@ -117,8 +117,8 @@ module _ (nw : List ℕ) (nf : List Float) (o : List ℕ) (w : List ℕ) (f : Li
       (tables stack keys (scannedOf o w f p stack keys s v)))
       (tables stack keys (nextOf stack keys s))
 
-  unfoldable pub steppedOf : List ℕ → List Float → State → Tables  -- one pop
-  steppedOf stack keys s =
+  unfoldable pub stepOf : List ℕ → List Float → State → Tables  -- one pop
+  stepOf stack keys s =
       cond (farOff (s .key) (s .hit .d))
       (tables stack keys (nextOf stack keys (popping s)))
       (openedOf stack keys (popping s) (nodeAt nw nf (s .at)))

@@ -19,31 +19,22 @@ unfoldable pub addedOf : ℕ → ℕ → Added
 addedOf number index = cond (eqb number 0) (Done index) (Refused number)
 
 -- what an entry answers, and the table that it leaves: `left` where the number is 0
-pub record Enters (number index : ℕ) (w left : List ℕ) (r : Added) (w′ : List ℕ) : Type 0 where
+pub record AddsOne (number index : ℕ) (w left : List ℕ) (r : Added) (w′ : List ℕ) : Type 0 where
   pub answer : r ≡ addedOf number index
   pub table : w′ ≡ cond (eqb number 0) left w
 
 -- f is the table's floats, bytes how long the arguments are
 abbrev pub AddsPiece : ℕ → Bool → List ℕ → List Float → ℕ → Added → List ℕ → Type 0
 AddsPiece before among w f bytes r w′ =
-    Enters
-    (pieceNumber before among w f (solidsOf (planOf w f)) bytes)
-    (countOf (sectionOf among) w)
-    w
-    (withPiece among w (newPlace among (solidsOf (planOf w f)) (argCuts w)))
-    r
-    w′
+    AddsOne (pieceNumber before among w f (solidsOf (planOf w f)) bytes) (countOf (sectionOf among) w) w
+    (withPiece among w (newPlace among (solidsOf (planOf w f)) (argCuts w))) r w′
 
 abbrev pub AddsMaterial : ℕ → List ℕ → List Float → Added → List ℕ → Type 0
 AddsMaterial before w f r w′ =
-    Enters
-    (recordNumber before (materialNumber (materialAt f argsRow)) materials w)
-    (countOf materials w)
-    w
-    (withMaterialWords w)
-    r
-    w′
+    AddsOne (recordNumber before (materialNumber (materialAt f argsRow)) materials w) (countOf materials w) w
+    (withMaterialWords w) r w′
 
 abbrev pub AddsLight : ℕ → List ℕ → List Float → Added → List ℕ → Type 0
 AddsLight before w f r w′ =
-    Enters (recordNumber before (lightNumber (lightAt f argsRow)) lights w) (countOf lights w) w (withLightWords w) r w′
+    AddsOne (recordNumber before (lightNumber (lightAt f argsRow)) lights w) (countOf lights w) w
+    (withLightWords w) r w′

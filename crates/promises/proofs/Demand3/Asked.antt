@@ -13,7 +13,7 @@ use Rattle.bvh_boxes.specs.Boxes.{boxesOf}
 use Rattle.bvh_rules.specs.Nodes.{nodesOf, orderOf}
 use Rattle.wire_lengths.specs.Lengths.{nodesBytes, orderBytes}
 use Rattle.wire.specs.Lent.{planTable, askTable}
-use Rattle.promises.specs.Bytes.{planAt, nodeWords, nodeFloats, orderWords, FullTree}
+use Rattle.promises.specs.Bytes.{planAt, wordsOfNodes, nodeFloats, orderWords, FullTree}
 use Rattle.promises.proofs.Tables.{table-length, table-nodes, table-floats, table-order, used-full}
 use Rattle.promises.proofs.Alone.{asked-same, sound-housed, objects-alone, sound-alone}
 
@@ -30,7 +30,7 @@ module _ (need : ℕ) (plan nodes order args : List ℕ) where
 
   -- ---- the tree's tables
   module _ (full : FullTree nodes order) where
-    pub ask-nodes : nodesOf (askTable need plan nodes order 1 args) ≡ nodeWords nodes
+    pub ask-nodes : nodesOf (askTable need plan nodes order 1 args) ≡ wordsOfNodes nodes
     unfolding askTable
     ask-nodes =
         table-nodes _ _ _ _
@@ -53,7 +53,7 @@ module _ (need : ℕ) (plan nodes order args : List ℕ) where
         → planAt plan .objects ≡ planAt made .objects
         → let w = askTable need plan nodes order 1 args in
         of (nodesOf w) (nodesOf (seen w)) (orderOf w) (boxesOf (planIn w))
-        ≡ of (nodeWords nodes) (nodeFloats nodes) (orderWords order) (boxesOf (planAt made))
+        ≡ of (wordsOfNodes nodes) (nodeFloats nodes) (orderWords order) (boxesOf (planAt made))
     unfolding boxesOf
     ask-reads of made sound e =
         let objects : planIn W .objects ≡ planAt plan .objects

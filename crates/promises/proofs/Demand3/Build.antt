@@ -26,7 +26,7 @@ use Rattle.bvh_build.proofs.Meets.{built-holds, built-low}
 use Rattle.wire_lengths.specs.Lengths.{outBytes, treeTablesBefore}
 use Rattle.bemitondry_tree.specs.Trees.{noNodes, noOrder, buildNumber}
 use Rattle.wire_tree.specs.Trees.{buildStores, builtWords, BuildSent}
-use Rattle.promises.specs.Bytes.{planAt, nodeWords, orderWords, FullPlan, FullTree}
+use Rattle.promises.specs.Bytes.{planAt, wordsOfNodes, orderWords, FullPlan, FullTree}
 use Rattle.promises.specs.Demand1.{Lent}
 use Rattle.promises.specs.Demand3.{BuildKeeps}
 use Rattle.promises.proofs.Cases.{either}
@@ -108,7 +108,7 @@ module _ (plan nodes order out : List ℕ) (n : ℕ) (nodes′ order′ out′ :
     sent-depth : n ≡ unless tooDeep (lowEnough P)
     sent-depth = sent-is ∙ number-depth
 
-    nodes-are : n ≡ 0 → nodeWords nodes′ ≡ nodesWith P noNodes
+    nodes-are : n ≡ 0 → wordsOfNodes nodes′ ≡ nodesWith P noNodes
     nodes-are z =
         built-words number nodesWords nodes nodes′ (nodesWith P noNodes) noNodes (sym sent-is ∙ z)
         (nodes-length P noNodes ∙ length-replicate {A = ℕ} nodesWords 0) (ft .nodes-full) (sent .nodes-is)

@@ -40,7 +40,7 @@ use Rattle.bemitondry_ask.specs.Asks.{foundReply, queryReply, distMatReply}
 use Rattle.bemitondry_ask.specs.Marches.{traceReply, shadowReply}
 use Rattle.bemitondry_light.specs.Light.{litAsk, litReply, directReply, directDiffuseReply}
 use Rattle.viewer.specs.Calls.{Ask, askReply}
-use Rattle.promises.specs.Bytes.{planAt, nodeWords, nodeFloats, orderWords, TreeRules, FullTree}
+use Rattle.promises.specs.Bytes.{planAt, wordsOfNodes, nodeFloats, orderWords, TreeRules, FullTree}
 use Rattle.promises.specs.Demand3.{treeCalls}
 use Rattle.promises.proofs.Lowest.{lower-least}
 use Rattle.promises.proofs.Cases.{either, _&_}
@@ -224,7 +224,7 @@ tree-zero made plan nodes order need args full sound rules e =
     let few : length (boxesOf (planAt made)) ≤ 256
     = omega (arith, boxes-length (planAt made), sound .counts .objects) in
     ask-reads need plan nodes order args full standingNumber made sound e
-    ∙ standing-exact (nodeWords nodes) (nodeFloats nodes) (orderWords order) (boxesOf (planAt made))
+    ∙ standing-exact (wordsOfNodes nodes) (nodeFloats nodes) (orderWords order) (boxesOf (planAt made))
     (length-words nodes nodesWords) few .1 rules
 
 -- no call sends 8

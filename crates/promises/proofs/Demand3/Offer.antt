@@ -31,7 +31,7 @@ use Rattle.wire_lengths.specs.Lengths.{outBytes}
 use Rattle.bemitondry_tree.specs.Trees.{offerNumber, offeredTree, judgedTree, sizeIn, frontWord, offeredNodes}
 use Rattle.bemitondry_tree.specs.Trees.{offeredOrder}
 use Rattle.wire_tree.specs.Trees.{offerTable, offerBefore, OfferSent}
-use Rattle.promises.specs.Bytes.{planAt, nodeWords, nodeFloats, orderWords, AcceptedTree, FullPlan, FullTree}
+use Rattle.promises.specs.Bytes.{planAt, wordsOfNodes, nodeFloats, orderWords, AcceptedTree, FullPlan, FullTree}
 use Rattle.promises.specs.Demand1.{Lent}
 use Rattle.promises.specs.Demand3.{OfferKeeps}
 use Rattle.promises.proofs.Cases.{either}
@@ -77,7 +77,7 @@ module _ (plan nodes order given ranks out : List ℕ) (n : ℕ) (nodes′ order
     W = offerTable plan given ranks
 
     abbrev NW : List ℕ
-    NW = nodeWords given
+    NW = wordsOfNodes given
 
     abbrev NF : List Float
     NF = nodeFloats given
@@ -137,7 +137,7 @@ module _ (plan nodes order given ranks out : List ℕ) (n : ℕ) (nodes′ order
             last = refl;
           }))
 
-      taken-nodes : nodeWords nodes′ ≡ offeredNodes W (seen W)
+      taken-nodes : wordsOfNodes nodes′ ≡ offeredNodes W (seen W)
       taken-nodes =
           rw (sent .nodes-is, eq-eqb number 0 zero)
           (stored-words nodes (offeredNodes W (seen W)) nodesWords (length-from _ 0 nodesWords) (ft .nodes-full))
@@ -154,7 +154,7 @@ module _ (plan nodes order given ranks out : List ℕ) (n : ℕ) (nodes′ order
           = sym (boxes-length (planIn W))
           ∙ ask-reads 0 plan given ranks [] fg (λ w f o bs. length bs) plan sound refl in
           let most = few in
-          accepted-same NW (nodeWords nodes′) OW (orderWords order′) BS t long
+          accepted-same NW (wordsOfNodes nodes′) OW (orderWords order′) BS t long
           (λ i h.
           rw (taken-nodes, sized, sym (ask-nodes 0 plan given ranks [] fg))
           (front-word W (nodesOf W) nodesFirst (9 * size t) nodesWords i

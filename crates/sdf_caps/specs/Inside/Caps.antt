@@ -14,8 +14,8 @@ abbrev pub outside : Float → Float  -- the square of how far x is above zero
 outside x = beyond x (x ⊗ x)
 
 -- `cylinderSquare`, the square y2 of y and what of it is outside worked out before
-abbrev pub squareAt : Float → Float → Float → Float → Float
-squareAt x y y2 by = cond (lt (fmax x y) f0) (neg (fmin (x ⊗ x) y2)) (outside x ⊕ by)
+abbrev pub signedSquare : Float → Float → Float → Float → Float
+signedSquare x y y2 by = cond (lt (fmax x y) f0) (neg (fmin (x ⊗ x) y2)) (outside x ⊕ by)
 
 abbrev pub rooted : Float → Float → Float  -- the distance from its signed square
 rooted d baba = signumOf d ⊗ rootOf (absOf d) ⊘ baba
@@ -50,8 +50,8 @@ coneSquare x paba cay baba ra rb rba =
     fmin (sq (fmax f0 (x ⊖ coneEnd paba ra rb)) ⊕ sq cay ⊗ baba) (sq (cbxAt x ra rba f) ⊕ sq (paba ⊖ f) ⊗ baba)
 
 -- `coneAt`, cay and rba worked out before
-abbrev pub coneFrom : Float → Float → Float → Float → Float → Float → Float → Float
-coneFrom x paba cay baba ra rb rba =
+abbrev pub coneBy : Float → Float → Float → Float → Float → Float → Float → Float
+coneBy x paba cay baba ra rb rba =
     coneSign (cbxAt x ra rba (coneFoot x paba baba ra rba)) cay ⊗ rootOf (coneSquare x paba cay baba ra rb rba)
 
 -- e bounds from below what a point's place along the axis adds to both squares

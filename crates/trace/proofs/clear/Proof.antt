@@ -1,8 +1,8 @@
--- `trace::clear` meets its contract: by `kept`, from its tests. Assumes nothing.
+-- `trace::clear` meets its contract: by `undimmed`, from its tests. Assumes nothing.
 use mathlib.Core.Path.{_≡_}
 use mathlib.Core.Bool.{true, false, false≢true}
 use borrow.Author.Needs.{needs}
-use Rattle.trace.proofs.Dimming.{kept}
+use Rattle.trace.proofs.Dimming.{undimmed}
 use Rattle.trace.proofs.clear.Statement.{statement}
 use Rattle.trace.proofs.clear.Tie as tie
 
@@ -15,7 +15,7 @@ returns c = λ e.
     let m = f .before in
     let k = m .before in
     let w = k .before in
-    kept _ _ _ _ _ (w .if1 .taken) (k .if2 .taken) (m .if3 .taken) (f .if4 .taken) (c .reaches .ensures e .1)
+    undimmed _ _ _ _ _ (w .if1 .taken) (k .if2 .taken) (m .if3 .taken) (f .if4 .taken) (c .reaches .ensures e .1)
 
 returns-2 : tie.Need-returns-2
 returns-2 c = λ e. never e

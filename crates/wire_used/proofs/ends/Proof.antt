@@ -1,14 +1,14 @@
 -- `wire_used::ends` meets its contract: no head passed ends later. Assumes nothing.
 use Prim.Native.Nat.{ℕ, _+_, _-_, _<_, _≤_}
 use native.Mathlib.Omega.{arith}
-use Rattle.wire_used.specs.Inside.Used.{Ends}
+use Rattle.wire_used.specs.Inside.Used.{EndsBy}
 use Rattle.wire_used.proofs.Laws.{one-more, ends-more}
 use borrow.Author.Needs.{needs}
 use Rattle.wire_used.proofs.ends.Statement.{statement}
 use Rattle.wire_used.proofs.ends.Tie as tie
 
 abbrev Inv-loop : tie.InvT-loop
-Inv-loop ws first n e₀ j₀ e j = (j ≤ n) × ((k : ℕ) → k < j → Ends ws e (first + k))
+Inv-loop ws first n e₀ j₀ e j = (j ≤ n) × ((k : ℕ) → k < j → EndsBy ws e (first + k))
 
 abbrev μ-loop : tie.MeasureT-loop
 μ-loop ws first n e₀ j₀ e j = n - j

@@ -38,8 +38,8 @@ pub record Filled (t w : List ℕ) (f : List Float) (P : ℕ → Type 0) : Type 
 
 -- ---- what is used
 -- the cutters of the piece in row r, if it has any, end at place u at the latest, or begin at v at the earliest
-abbrev pub Ends : List ℕ → ℕ → ℕ → Type 0
-Ends w u r = (wordOf w (16 * r + 2) ≡ 0) ⊎ (wordOf w (16 * r + 12) + wordOf w (16 * r + 2) ≤ u)
+abbrev pub EndsBy : List ℕ → ℕ → ℕ → Type 0
+EndsBy w u r = (wordOf w (16 * r + 2) ≡ 0) ⊎ (wordOf w (16 * r + 12) + wordOf w (16 * r + 2) ≤ u)
 
 abbrev pub Begins : List ℕ → ℕ → ℕ → Type 0
 Begins w v r = (wordOf w (16 * r + 2) ≡ 0) ⊎ (v ≤ wordOf w (16 * r + 12))
@@ -90,9 +90,9 @@ pub record Used (t x : List ℕ) (m : ℕ) : Type 0 where
   pub u : ℕ
   pub v : ℕ
   pub most : u ≤ cutterPlaces
-  pub ends : (j : ℕ) → j < m → Ends t u (table.objects .first + j)
+  pub ends : (j : ℕ) → j < m → EndsBy t u (table.objects .first + j)
   pub begins : (j : ℕ) → j < wordOf t (table.planes .count) → Begins t v (table.planes .first + j)
-  pub planes-end : (j : ℕ) → j < wordOf t (table.planes .count) → Ends t cutterPlaces (table.planes .first + j)
+  pub planes-end : (j : ℕ) → j < wordOf t (table.planes .count) → EndsBy t cutterPlaces (table.planes .first + j)
   pub lists : (i : ℕ) → Listed t m i → wordOf x i ≡ wordOf t i
   pub front : SameWords t x cutterFirst (cutterFirst + 16 * u)
   pub back : SameWords t x (cutterFirst + 16 * v) planWords
