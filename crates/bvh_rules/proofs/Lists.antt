@@ -13,6 +13,7 @@ use lib.Ieee.{Float, nan}
 use borrow.Author.Tests.{lt-ltb, le-ltb, le-leb, lt-leb}
 use Rattle.sdf.specs.declared.Aabb.{Aabb}
 use Rattle.words.specs.Lists.{listFrom}
+use Rattle.words.proofs.Laws.{past-end}
 use Rattle.words.proofs.Runs.{from-snoc}
 use Rattle.plan.specs.Sections.{nodesFirst, orderFirst, tableWords, nodesWords, orderPlaces}
 use Rattle.plan.specs.Records.{wordOf, floatOf}
@@ -123,30 +124,24 @@ abbrev pub noNode : Node
 noNode = record { hull = noBox; start = 0; count = 0; right = 0 }
 
 module _ (w : List ℕ) (f : List Float) (lw : length w ≤ nodesWords) where
-  word-past : (i : ℕ) → nodesWords ≤ i → getD w i 0 ≡ 0
-  word-past i h = List·getD-eq-default w 0 (omega arith)
-
   pub words-past : (at : ℕ) → nodesMost ≤ at → (nodeAt w f at .count ≡ 0) × (nodeAt w f at .right ≡ 0)
   unfolding nodeAt
-  words-past at h = (word-past (9 * at + 7) (omega arith), word-past (9 * at + 8) (omega arith))
-
-  float-past : length f ≤ nodesWords → (i : ℕ) → nodesWords ≤ i → getD f i nan ≡ nan
-  float-past lf i h = List·getD-eq-default f nan (omega arith)
+  words-past at h = (past-end w 0 nodesWords (9 * at + 7) lw (omega arith), past-end w 0 nodesWords (9 * at + 8) lw (omega arith))
 
   node-past : length f ≤ nodesWords → (at : ℕ) → nodesMost ≤ at → nodeAt w f at ≡ noNode
   unfolding nodeAt
   node-past lf at h =
       let i : ℕ = 9 * at in
       rw (
-        float-past lf i (omega arith),
-        float-past lf (i + 1) (omega arith),
-        float-past lf (i + 2) (omega arith),
-        float-past lf (i + 3) (omega arith),
-        float-past lf (i + 4) (omega arith),
-        float-past lf (i + 5) (omega arith),
-        word-past (i + 6) (omega arith),
-        word-past (i + 7) (omega arith),
-        word-past (i + 8) (omega arith),
+        past-end f nan nodesWords i lf (omega arith),
+        past-end f nan nodesWords (i + 1) lf (omega arith),
+        past-end f nan nodesWords (i + 2) lf (omega arith),
+        past-end f nan nodesWords (i + 3) lf (omega arith),
+        past-end f nan nodesWords (i + 4) lf (omega arith),
+        past-end f nan nodesWords (i + 5) lf (omega arith),
+        past-end w 0 nodesWords (i + 6) lw (omega arith),
+        past-end w 0 nodesWords (i + 7) lw (omega arith),
+        past-end w 0 nodesWords (i + 8) lw (omega arith),
       )
 
 pub node-none

@@ -3,13 +3,15 @@
 use Prim.Native.Nat.{ℕ, _+_, _*_, _≤_}
 use mathlib.Core.Path.{_≡_, refl}
 use mathlib.Core.List.{List, [], _∷_, _++_}
+use native.Mathlib.Nat.{le-of-eq}
 use native.Mathlib.Numerals.{add-one}
 use native.Mathlib.Omega.{arith}
-use lib.ListN.{length, getD, List·getD-eq-default}
+use lib.ListN.{length}
 use lib.Ieee.{Float, nan}
 use Rattle.vec.specs.declared.Vec3.{Vec3}
 use Rattle.refusals.specs.Prims.{shapeOf}
 use Rattle.words.specs.Lists.{listFrom}
+use Rattle.words.proofs.Laws.{past-end}
 use Rattle.words.proofs.Runs.{from-snoc}
 use Rattle.plan.specs.declared.Cutter.{Cutter}
 use Rattle.plan.specs.declared.Head.{Head}
@@ -80,50 +82,53 @@ module _ (w : List ℕ) (f : List Float) where
       rw (at 1, at 2, at 3, at 4, at 5, at 6, at 7, at 8)
 
 -- past the last row
-float-past : (f : List Float) → length f ≡ 27296 → (i : ℕ) → 27296 ≤ i → getD f i nan ≡ nan
-float-past f l i h = List·getD-eq-default f nan (omega arith)
-
 pub vec-past : (f : List Float) → length f ≡ 27296 → (r k : ℕ) → 1706 ≤ r → vecOf f (16 * r + k) ≡ noVec
 vec-past f l r k h =
     let i : ℕ = 16 * r + k in
-    rw (float-past f l i (omega arith), float-past f l (i + 1) (omega arith), float-past f l (i + 2) (omega arith))
+    let q = le-of-eq l in
+    rw (
+      past-end f nan 27296 i q (omega arith),
+      past-end f nan 27296 (i + 1) q (omega arith),
+      past-end f nan 27296 (i + 2) q (omega arith),
+    )
 
 module _ (w : List ℕ) (f : List Float) (lw : length w ≡ 27296) (lf : length f ≡ 27296) where
-  word-past : (i : ℕ) → 27296 ≤ i → getD w i 0 ≡ 0
-  word-past i h = List·getD-eq-default w 0 (omega arith)
-
   pub cutter-past : (r : ℕ) → 1706 ≤ r → cutterAt w f r ≡ record { kind = 0; shape = noShape }
   unfolding cutterAt
   cutter-past r h =
       let i : ℕ = 16 * r in
+      let qw = le-of-eq lw in
+      let qf = le-of-eq lf in
       rw (
-        word-past i (omega arith),
-        float-past f lf (i + 1) (omega arith),
-        float-past f lf (i + 2) (omega arith),
-        float-past f lf (i + 3) (omega arith),
-        float-past f lf (i + 4) (omega arith),
-        float-past f lf (i + 5) (omega arith),
-        float-past f lf (i + 6) (omega arith),
-        float-past f lf (i + 7) (omega arith),
-        float-past f lf (i + 8) (omega arith),
+        past-end w 0 27296 i qw (omega arith),
+        past-end f nan 27296 (i + 1) qf (omega arith),
+        past-end f nan 27296 (i + 2) qf (omega arith),
+        past-end f nan 27296 (i + 3) qf (omega arith),
+        past-end f nan 27296 (i + 4) qf (omega arith),
+        past-end f nan 27296 (i + 5) qf (omega arith),
+        past-end f nan 27296 (i + 6) qf (omega arith),
+        past-end f nan 27296 (i + 7) qf (omega arith),
+        past-end f nan 27296 (i + 8) qf (omega arith),
       )
 
   pub head-past : (r : ℕ) → 1706 ≤ r → headAt w f r ≡ noHead
   unfolding headAt
   head-past r h =
       let i : ℕ = 16 * r in
+      let qw = le-of-eq lw in
+      let qf = le-of-eq lf in
       rw (
-        word-past i (omega arith),
-        word-past (i + 2) (omega arith),
-        word-past (i + 3) (omega arith),
-        word-past (i + 12) (omega arith),
-        float-past f lf (i + 1) (omega arith),
-        float-past f lf (i + 3 + 1) (omega arith),
-        float-past f lf (i + 3 + 2) (omega arith),
-        float-past f lf (i + 3 + 3) (omega arith),
-        float-past f lf (i + 3 + 4) (omega arith),
-        float-past f lf (i + 3 + 5) (omega arith),
-        float-past f lf (i + 3 + 6) (omega arith),
-        float-past f lf (i + 3 + 7) (omega arith),
-        float-past f lf (i + 3 + 8) (omega arith),
+        past-end w 0 27296 i qw (omega arith),
+        past-end w 0 27296 (i + 2) qw (omega arith),
+        past-end w 0 27296 (i + 3) qw (omega arith),
+        past-end w 0 27296 (i + 12) qw (omega arith),
+        past-end f nan 27296 (i + 1) qf (omega arith),
+        past-end f nan 27296 (i + 3 + 1) qf (omega arith),
+        past-end f nan 27296 (i + 3 + 2) qf (omega arith),
+        past-end f nan 27296 (i + 3 + 3) qf (omega arith),
+        past-end f nan 27296 (i + 3 + 4) qf (omega arith),
+        past-end f nan 27296 (i + 3 + 5) qf (omega arith),
+        past-end f nan 27296 (i + 3 + 6) qf (omega arith),
+        past-end f nan 27296 (i + 3 + 7) qf (omega arith),
+        past-end f nan 27296 (i + 3 + 8) qf (omega arith),
       )

@@ -20,10 +20,10 @@ use Rattle.record_test.proofs.Numbers.{light-exact}
 use Rattle.plan_test.proofs.Exact.{solids-exact, lit-exact}
 use Rattle.plan_write.specs.Written.{argCuts, sectionOf, recordWords, pieceWords, putRow, putCutters, oneMore}
 use Rattle.plan_write.specs.Written.{withPiece, withMaterialWords, withLightWords}
-use Rattle.plan_entry.specs.After.{givenPiece, Made, empty, relent, piece, material, light}
+use Rattle.plan_entry.specs.After.{givenPiece, listOf, Made, empty, relent, piece, material, light}
 use Rattle.plan_write.proofs.Lists.{length-row, length-cutters}
 use Rattle.plan_entry.proofs.Accepts.{Accepted, accepted, taken}
-use Rattle.plan_entry.proofs.Sound.{listOf, Fits, piece-lit, material-lit, light-lit}
+use Rattle.plan_entry.proofs.Sound.{Fits, piece-lit, material-lit, light-lit}
 use Rattle.plan_entry.proofs.Entered.{placeFor, Placed, placed-for, piece-entered, material-entered}
 use Rattle.plan_entry.proofs.Entered.{light-entered, plan-relent}
 
@@ -87,16 +87,16 @@ nothing-at : (i : ℕ) → i < 27296 → wordOf nothing i ≡ 0
 nothing-at i h = getD-replicate {A = ℕ} 27296 i 0 0 h
 
 -- ---- an accepted piece fits
-count-of : (among : Bool) (w : List ℕ) → length (listOf among (planIn w)) ≡ countOf (sectionOf among) w
+pub pieces-of : (among : Bool) (w : List ℕ) → length (listOf among (planIn w)) ≡ countOf (sectionOf among) w
 unfolding planOf piecesFrom
-count-of true w = length-from (pieceAt w (seen w)) 65 (countOf planes w)
-count-of false w = length-from (pieceAt w (seen w)) 113 (countOf objects w)
+pieces-of true w = length-from (pieceAt w (seen w)) 65 (countOf planes w)
+pieces-of false w = length-from (pieceAt w (seen w)) 113 (countOf objects w)
 
-materials-of : (w : List ℕ) → length (planIn w .materials) ≡ countOf materials w
+pub materials-of : (w : List ℕ) → length (planIn w .materials) ≡ countOf materials w
 unfolding planOf
 materials-of w = length-from (materialAt (seen w)) 1 (countOf materials w)
 
-lights-of : (w : List ℕ) → length (planIn w .lights) ≡ countOf lights w
+pub lights-of : (w : List ℕ) → length (planIn w .lights) ≡ countOf lights w
 unfolding planOf
 lights-of w = length-from (lightIn (seen w)) 0 (countOf lights w)
 
@@ -132,7 +132,7 @@ fits among w a =
     let above = d .above in
     let below = d .below in
     record {
-      count = rw (count-of among w) (a .count);
+      count = rw (pieces-of among w) (a .count);
       piece = rw (materials-of w) (given-ok among w (placeFor among w) a);
       place = given-place among w d;
       room = rw o (omega arith);

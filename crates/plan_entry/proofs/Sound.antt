@@ -17,11 +17,7 @@ use Rattle.plan_test.specs.Exact.{PieceOk, PlaceIs, PiecesOk, SoundSolids, Soun
 use Rattle.plan_test.proofs.Lists.{cutters-snoc}
 use Rattle.plan_test.proofs.Apart.{places-snoc}
 use Rattle.plan_write.specs.Written.{sectionOf}
-use Rattle.plan_entry.specs.After.{withOne}
-
-abbrev pub listOf : Bool → Plan → List Piece
-listOf true p = p .planes
-listOf false p = p .objects
+use Rattle.plan_entry.specs.After.{listOf, withOne}
 
 -- a piece that enters
 pub record Fits (among : Bool) (p : Plan) (o : Piece) : Type 0 where

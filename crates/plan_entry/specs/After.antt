@@ -31,6 +31,10 @@ unfoldable pub givenPiece : List ℕ → ℕ → Piece  -- the piece that the ar
 givenPiece w at =
     record { head = placed (headAt w (seen w) argsRow) at; cuts = cutsBy w (seen w) (argsRow + 1) (argCuts w) }
 
+abbrev pub listOf : Bool → Plan → List Piece  -- the planes, or the objects
+listOf true p = p .planes
+listOf false p = p .objects
+
 abbrev pub withOne : Bool → Plan → Piece → Plan  -- a plan with a piece more among planes, or among objects
 withOne true p o = withPlane p o
 withOne false p o = withObject p o

@@ -20,7 +20,7 @@ use Rattle.plan_entry.proofs.Entered.{plan-relent}
 use Rattle.wire.specs.Lent.{planTable, askTable}
 use Rattle.promises.specs.Bytes.{planWith, planAt}
 use Rattle.promises.proofs.Tables.{table-plan, plan-word}
-use Rattle.promises.proofs.Counts.{materials-of, pieces-of}
+use Rattle.plan_entry.proofs.Made.{materials-of, pieces-of}
 
 -- two tables have the same plan's words
 abbrev pub SamePlan : List ℕ → List ℕ → Type 0

@@ -12,7 +12,7 @@ use mathlib.Core.Bool.{true, false}
 use Rattle.wire.specs.Lent.{planTable}
 use Rattle.promises.specs.Demand1.{DemandOne}
 use Rattle.promises.proofs.Replies.{sent-number}
-use Rattle.promises.proofs.Counts.{materials-of, lights-of, pieces-of}
+use Rattle.plan_entry.proofs.Made.{materials-of, lights-of, pieces-of}
 use Rattle.promises.proofs.Alone.{alone}
 use Rattle.promises.proofs.Demand1.Entries.{entry-enters, entry-answers, tree-drops, material-entry}
 use Rattle.promises.proofs.Demand1.Entries.{light-entry, plane-entry, object-entry}

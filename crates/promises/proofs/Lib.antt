@@ -7,7 +7,6 @@ pub mod Lengths
 pub mod Replies
 pub mod Applies
 pub mod Tables
-pub mod Counts
 pub mod Alone
 pub mod Demand1
 pub mod Demand3

@@ -19,12 +19,10 @@ use Rattle.plan.specs.Plan.{seen}
 use Rattle.bvh_rules.specs.Nodes.{nodesOf, orderOf}
 use Rattle.wire_lengths.specs.Lengths.{planBytes}
 use Rattle.wire.specs.Lent.{lentOf, usedOf, tableOf, planTable}
+use Rattle.wire.proofs.Loads.{length-words}
 use Rattle.promises.proofs.Cases.{either}
 
 -- ---- words of bytes
-pub length-words : (t : List ℕ) (n : ℕ) → length (wordsOf t n) ≡ n
-length-words t n = length-from (wordAt t) 0 n
-
 word-of : (t : List ℕ) (n i : ℕ) → i < n → wordOf (wordsOf t n) i ≡ wordAt t i
 word-of t n i h = getD-from (wordAt t) 0 n i 0 h ∙ ap (wordAt t) (omega arith)
 

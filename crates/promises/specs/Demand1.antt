@@ -22,7 +22,7 @@ use Rattle.record_test.specs.Exact.{CutterOk, HeadOk, LightOk}
 use Rattle.plan_test.specs.Exact.{CountsOk, SoundSolids, SoundLit}
 use Rattle.plan_write.specs.Written.{argCuts, sectionOf}
 use Rattle.plan_entry.specs.Entry.{newPlace}
-use Rattle.plan_entry.specs.After.{givenPiece, withOne}
+use Rattle.plan_entry.specs.After.{givenPiece, listOf, withOne}
 use Rattle.reply.specs.Reply.{oneWord, refusedReply}
 use Rattle.wire_lengths.specs.Lengths.{nodesBytes, orderBytes, outBytes}
 use Rattle.wire.specs.Lent.{planTable}
@@ -54,10 +54,6 @@ pub record LightTaken (w : List ℕ) : Type 0 where
   pub room : length (planIn w .lights) < lights .most
 
 -- a piece with its cutters, in arguments of so many bytes: a plane, or an object
-abbrev pub listOf : Bool → Plan → List Piece
-listOf true p = p .planes
-listOf false p = p .objects
-
 pub record PieceTaken (among : Bool) (bytes : ℕ) (w : List ℕ) : Type 0 where
   pub own : HeadOk among (length (planIn w .materials)) (headAt w (seen w) argsRow)
   pub few : argCuts w ≤ cutsMost

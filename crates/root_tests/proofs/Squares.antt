@@ -1,7 +1,7 @@
 -- Tests of roots with no root taken: of a root against a bound by the bound's limit, of two roots by how far apart
 -- their squares are, of a root against a guess by the guess' square. By the laws of the root. Assumes nothing.
 use mathlib.Core.Path.{_≡_, refl, sym, subst}
-use mathlib.Core.Bool.{Bool, true, false, not, cond}
+use mathlib.Core.Bool.{Bool, true, false, cond}
 use mathlib.Core.Logic.{_⊎_, inl, inr, ⊎-elim}
 use Prim.Native.Nat.{ℕ, zero, suc, _*_, _≤_, _<_}
 use native.Mathlib.Nat.{mul-pos, not-le-of-lt}
@@ -9,7 +9,7 @@ use native.Mathlib.Nat as nat
 use native.Mathlib.Omega.{arith}
 use lib.Dec.{T}
 use lib.Ieee.{Float, nan, inf, fin, binary32, binary64, ofBits, toBits, up, round, add}
-use lib.Ieee.{mul, fits, isNan, lt, le, eq}
+use lib.Ieee.{mul, fits, lt, le, eq}
 use lib.Ieee.Exact.{HasValue}
 use lib.Ieee.Fits.{up-pos}
 use lib.Ieee.Scale.{finite}
@@ -106,12 +106,6 @@ plain-finite : (x : Float) → T (plain x) → T (finite x)
 plain-finite nan h = absurd h
 plain-finite (inf s) h = absurd h
 plain-finite (fin s m e) h = tt
-
-pub plain-no-nan : (x : Float) → T (plain x) → T (not (isNan x))
-unfolding isNan
-plain-no-nan nan h = absurd h
-plain-no-nan (inf s) h = absurd h
-plain-no-nan (fin s m e) h = tt
 
 -- ---- a root against a guess
 plain-plus : (x : Float) → T (plain x) → T (le zeroF x)

@@ -38,7 +38,7 @@ filled pre rest t w from to e l h g =
     (rw (e, take-at pre rest from l, drop-at pre rest from l)
     (sym (append-assoc pre (wordsOf t (to - from)) (drop (to - from) rest))))
 
-length-words : (t : List ℕ) (n : ℕ) → length (wordsOf t n) ≡ n
+pub length-words : (t : List ℕ) (n : ℕ) → length (wordsOf t n) ≡ n
 length-words t n = length-from (wordAt t) 0 n
 
 pub table-loaded : (plan args nodes order none w w1 w2 w3 w4 w5 : List ℕ) → length w ≡ 27296 → none ≡ []

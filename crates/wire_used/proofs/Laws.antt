@@ -1,19 +1,15 @@
 -- Steps of the walks over heads, order and floats: what held of the places passed holds of one more. Assumes nothing.
 use Prim.Native.Nat.{ℕ, _+_, _*_, _<_, _≤_}
-use mathlib.Core.Path.{_≡_, refl, sym, subst, _∙_}
+use mathlib.Core.Path.{_≡_, refl, subst, _∙_}
 use mathlib.Core.Logic.{_⊎_, inl, inr, ⊎-elim}
 use mathlib.Core.List.{List}
 use native.Mathlib.Decide.{decLe}
 use native.Mathlib.Omega.{arith}
-use lib.ListN.{length, set, List·getD-eq-default, length-set}
+use lib.ListN.{length, set, length-set}
 use lib.Seq.{getD-set-same, getD-set-other}
 use lib.Ieee.{Float, nan, binary32, ofBits}
 use Rattle.plan.specs.Records.{wordOf, floatOf}
 use Rattle.wire_used.specs.Inside.Used.{EndsBy, Begins, Seen}
-
--- no words lie past a table
-pub word-none : (w : List ℕ) (i : ℕ) → length w ≡ 27296 → 27296 ≤ i → wordOf w i ≡ 0
-word-none w i l h = List·getD-eq-default w 0 {n = i} (subst (λ (n : ℕ). n ≤ i) (sym l) h)
 
 -- one place more
 pub one-more : {P : ℕ → Type 0} (n : ℕ) → ((j : ℕ) → j < n → P j) → P n → (j : ℕ) → j < n + 1 → P j

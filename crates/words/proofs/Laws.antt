@@ -5,14 +5,18 @@ use mathlib.Core.Path.{_≡_, refl, sym, _∙_, ap}
 use mathlib.Core.Bool.{true, false}
 use mathlib.Core.Logic.{_⊎_, ⊎-elim, inl, inr}
 use mathlib.Core.List.{List, [], _∷_}
-use native.Mathlib.Nat.{add-zero}
+use native.Mathlib.Nat.{add-zero, le-trans}
 use native.Mathlib.Omega.{arith}
-use lib.ListN.{length, getD, set, drop, length-set, drop-of-length-le}
+use lib.ListN.{length, getD, set, drop, length-set, drop-of-length-le, List·getD-eq-default}
 use lib.Seq.{getD-set-same, getD-set-other, set-getD, ext-getD}
 use lib.Dec.{ltb}
 use borrow.Author.Tests.{lt-ltb, le-ltb, ltb-true, ltb-false}
 use Rattle.words.specs.Lists.{listFrom}
 use Rattle.words.specs.Words.{le4, wordAt, wordsOf, put4, putWord, putWords, withWords}
+
+-- what lies past a table of at most n
+pub past-end : {A : Type 0} (xs : List A) (d : A) (n i : ℕ) → length xs ≤ n → n ≤ i → getD xs i d ≡ d
+past-end xs d n i l h = List·getD-eq-default xs d {n = i} (le-trans l h)
 
 -- ---- whether the bytes have word i
 pub less-or : (m n : ℕ) → (m < n) ⊎ (n ≤ m)

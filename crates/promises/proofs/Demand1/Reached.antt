@@ -22,7 +22,7 @@ use Rattle.plan_test.specs.Tests.{cuttersOf}
 use Rattle.record_test.specs.Exact.{LightOk}
 use Rattle.plan_test.specs.Exact.{PieceOk, PlaceIs, SoundLit}
 use Rattle.plan_write.specs.Written.{argCuts, sectionOf}
-use Rattle.plan_entry.specs.After.{givenPiece, withOne}
+use Rattle.plan_entry.specs.After.{givenPiece, listOf, withOne}
 use Rattle.plan_entry.proofs.Accepts.{accepted}
 use Rattle.plan_entry.proofs.Entered.{placeFor, Placed, placed-for}
 use Rattle.reply.specs.Reply.{oneWord, replyOf}
@@ -32,7 +32,7 @@ use Rattle.wire_lengths.specs.Lengths.{planBefore}
 use Rattle.bemitondry_entry.specs.Entries.{pieceEntry, pieceLeft}
 use Rattle.wire_entry.specs.Entries.{EntrySent, objectBefore}
 use Rattle.promises.specs.Bytes.{planAt, FullPlan, FullTree}
-use Rattle.promises.specs.Demand1.{Lent, MaterialOk, MaterialTaken, LightTaken, listOf, PieceTaken, entering}
+use Rattle.promises.specs.Demand1.{Lent, MaterialOk, MaterialTaken, LightTaken, PieceTaken, entering}
 use Rattle.promises.specs.Demand1.{Run, start, material, light, plane, object, emptyPlan}
 use Rattle.promises.proofs.Demand1.Entries.{Entry, entry-enters, material-entry, light-entry, plane-entry}
 use Rattle.promises.proofs.Demand1.Entries.{object-entry}

@@ -24,7 +24,7 @@ use Rattle.plan_test.proofs.Exact.{lit-exact}
 use Rattle.wire.specs.Lent.{planTable}
 use Rattle.promises.specs.Bytes.{planAt}
 use Rattle.promises.proofs.Cases.{either}
-use Rattle.promises.proofs.Counts.{materials-of, lights-of, pieces-of}
+use Rattle.plan_entry.proofs.Made.{materials-of, lights-of, pieces-of}
 use Rattle.promises.proofs.Demand1.Small.{Small, table-small}
 use Rattle.promises.proofs.Demand1.Given.{headBy, pieceBy, rowsOf, piece-by}
 use Rattle.promises.proofs.Demand1.Reached.{Reached, plainMaterial, reached-sound, reach-none, reach-material}

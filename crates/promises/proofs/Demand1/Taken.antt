@@ -24,7 +24,7 @@ use Rattle.plan_entry.specs.Entry.{recordNumber}
 use Rattle.promises.specs.Demand1.{MaterialOk, MaterialTaken, LightTaken, PieceTaken}
 use Rattle.promises.proofs.Exact.{lower-exact, unless-exact, cond-exact, and-exact, leb-exact, ltb-exact}
 use Rattle.promises.proofs.Exact.{told-exact}
-use Rattle.promises.proofs.Counts.{materials-of, lights-of, pieces-of}
+use Rattle.plan_entry.proofs.Made.{materials-of, lights-of, pieces-of}
 
 -- ---- a material, or a light
 material-exact : (m : Material) → (materialNumber m ≡ 0) ↔ MaterialOk m

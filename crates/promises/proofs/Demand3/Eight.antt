@@ -45,7 +45,7 @@ use Rattle.promises.specs.Demand3.{treeCalls}
 use Rattle.promises.proofs.Lowest.{lower-least}
 use Rattle.promises.proofs.Cases.{either, _&_}
 use Rattle.promises.proofs.Replies.{traced-number}
-use Rattle.promises.proofs.Tables.{length-words}
+use Rattle.wire.proofs.Loads.{length-words}
 use Rattle.promises.proofs.Demand3.Asked.{ask-reads}
 
 -- another number than 8

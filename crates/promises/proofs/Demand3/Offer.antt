@@ -36,7 +36,8 @@ use Rattle.promises.specs.Demand1.{Lent}
 use Rattle.promises.specs.Demand3.{OfferKeeps}
 use Rattle.promises.proofs.Cases.{either}
 use Rattle.promises.proofs.Lengths.{tree-exact, lent-tree-exact}
-use Rattle.promises.proofs.Tables.{length-words, stored-words}
+use Rattle.wire.proofs.Loads.{length-words}
+use Rattle.promises.proofs.Tables.{stored-words}
 use Rattle.promises.proofs.Replies.{sent-number, sent-word}
 use Rattle.promises.proofs.Demand3.Asked.{ask-sound, ask-nodes, ask-order, ask-reads}
 use Rattle.promises.proofs.Demand3.SameTree.{accepted-same}

@@ -8,9 +8,9 @@ use mir.Syntax.{w32}
 use mir.Val.{Fits}
 use Rattle.root.specs.Root.{plain}
 use Rattle.root.proofs.Laws.{plain-small}
-use Rattle.root.proofs.Whole.{no-nan-bits}
+use Rattle.root.proofs.Whole.{no-nan-bits, plain-no-nan}
 use Rattle.root_tests.specs.Inside.Tests.{usual}
-use Rattle.root_tests.proofs.Squares.{usual-plain, plain-no-nan}
+use Rattle.root_tests.proofs.Squares.{usual-plain}
 use native.Mathlib.Omega.{arith}
 use borrow.Author.Needs.{needs}
 use Rattle.root_tests.proofs.root_guess.Statement.{statement}

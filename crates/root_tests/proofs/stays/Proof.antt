@@ -3,8 +3,8 @@ use mathlib.Core.Path.{_≡_, sym, subst, _∙_}
 use mathlib.Core.Bool.{true, false, false≢true}
 use lib.Dec.{T}
 use lib.Ieee.{binary32, fits}
-use Rattle.root.proofs.Whole.{cast-ok}
-use Rattle.root_tests.proofs.Squares.{usual-plain, plain-no-nan, stayed}
+use Rattle.root.proofs.Whole.{cast-ok, plain-no-nan}
+use Rattle.root_tests.proofs.Squares.{usual-plain, stayed}
 use borrow.Author.Needs.{needs}
 use Rattle.root_tests.proofs.stays.Statement.{statement}
 use Rattle.root_tests.proofs.stays.Tie as tie

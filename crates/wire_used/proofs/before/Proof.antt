@@ -4,7 +4,8 @@ use Prim.Native.Nat.{_+_, _*_}
 use mathlib.Core.Path.{sym, _∙_}
 use mathlib.Core.Logic.{inl, inr}
 use native.Mathlib.Omega.{arith}
-use Rattle.wire_used.proofs.Laws.{word-none}
+use native.Mathlib.Nat.{le-of-eq}
+use Rattle.words.proofs.Laws.{past-end}
 use borrow.Author.Needs.{needs}
 use Rattle.wire_used.proofs.before.Statement.{statement}
 use Rattle.wire_used.proofs.before.Tie as tie
@@ -27,8 +28,10 @@ returns-3 c =
 returns-4 : tie.Need-returns-4
 returns-4 c =
     let l = c .before .if1 .left in
-    let a = c .before .before .args in
-    (omega arith, inl (word-none (a .ws .now) (16 * a .r + 2) (c .-words .given .0) (omega (arith, l))))
+    let a = c .before .before .args in (
+      omega arith,
+      inl (past-end (a .ws .now) 0 27296 (16 * a .r + 2) (le-of-eq (c .-words .given .0)) (omega (arith, l))),
+    )
 
 pub before-spec : {M : Type 1} → statement M
 before-spec =
