@@ -38,7 +38,8 @@ litAsk before given tree p w f =
 unfoldable pub litReply : Lit → Reply  -- "x y z, count"
 litReply l = doneReply (bits (l .light .x)) (bits (l .light .y)) (bits (l .light .z)) (l .count) 0 0 0 0
 
-abbrev pub argMaterial : List Float → Material  -- "point, normal, view, albedo, roughness, metallic"
+-- "point, normal, view, albedo, roughness, metallic"
+abbrev pub argMaterial : List Float → Material
 argMaterial f = record { albedo = argVec f 9; roughness = argFloat f 12; metallic = argFloat f 13 }
 
 abbrev pub directGiven : List Float → ℕ

@@ -1,5 +1,6 @@
 -- Build and offer: "with no objects they send 0 and no nodes, and leave both tables zero. An accepted offer copies the
--- tree's words and the order, and zeroes what lies past them. A build that ends in 7 leaves both tables all zero."
+-- tree's words and the order, and zeroes what lies past them. A build that ends in 7 leaves node and order tables all
+-- zero."
 use Prim.Native.Nat.{ℕ, _+_, _*_}
 use mathlib.Core.Bool.{cond}
 use mathlib.Core.List.{List}

@@ -24,7 +24,7 @@ gridOf c =
       scale = f12 ⊘ vaxis (extentOf c) (axisOf (extentOf c));
     }
 
-abbrev pub binAt : Float → ℕ  -- "truncates a float: 0 to 11": toward zero, to the nearest end, from a NaN to 0
+abbrev pub binAt : Float → ℕ  -- as `as usize`: toward zero, to the nearest end of the range, from a NaN to 0
 binAt x = min (toUnsigned 64 x) 11
 
 unfoldable pub binOf : Grid → Aabb → ℕ

@@ -24,7 +24,8 @@ viewOf n v m =
       kd = diffuseAlbedoOf (m .albedo) (m .metallic);
     }
 
-unfoldable pub mirrorOf : Vec3 → Vec3 → Vec3  -- the representative point
+-- the representative point
+unfoldable pub mirrorOf : Vec3 → Vec3 → Vec3
 mirrorOf n v = vsub (vneg v) (vscale n (f2 ⊗ vdot n (vneg v)))
 
 -- the panel's point nearest to where r meets its plane at t, where that lies ahead; else its centre

@@ -12,7 +12,8 @@ use Rattle.vec.specs.declared.Vec3.{Vec3}
 use Rattle.vec.specs.Vec.{vadd, vsub, vscale, vover, vdot, vcross, vlength}
 use Rattle.quad.specs.declared.Quad.{Quad}
 
-abbrev pub above : Vec3 → Bool  -- the clip: corners at or above the horizon, and where an edge crosses it
+-- the clip: corners at or above the horizon, and where an edge crosses it
+abbrev pub above : Vec3 → Bool
 above a = le f0 (a .z)
 
 unfoldable pub crossingOf : Vec3 → Vec3 → Vec3

@@ -1,4 +1,4 @@
--- What a call leaves: "an `out` shorter than 16 words .. stays as it was whatever number is sent".
+-- What a call leaves: an `out` shorter than 16 words "stays as it was whatever number is sent".
 use Prim.Native.Nat.{ℕ}
 use mathlib.Core.Path.{_≡_}
 use mathlib.Core.Bool.{Bool, cond}

@@ -4,7 +4,7 @@ use mathlib.Core.Bool.{cond}
 use lib.Dec.{leb, eqb}
 use Rattle.refusals.specs.Refusals.{badNumber, noRoom, unless, lower}
 
--- "plan 89,152 bytes; nodes 18,396 bytes; order 1,024 bytes", and sixteen words of an answer
+-- plan 22,288 words, nodes 4,599, order 256, and sixteen words of an answer, in bytes
 abbrev pub planBytes : ℕ
 planBytes = 89152
 

@@ -69,10 +69,17 @@ R t = (
   both-reads.Learnt,
 )
 
--- what is known of the cut, and of the range when its left part is back
+-- where the call began, what is known of the cut, and of the range when its left part is back
+abbrev start-of
+    : (t : ℕ) (c : build-recursive-lts.After-cut (R t) (build-recursive-at t) build-recursive.Post)
+    → build-recursive-lts.Start (R t) (build-recursive-at t) build-recursive.Post
+start-of t c =
+    let s = c .before .before .before .before .before .before .before in
+    s .before .before .before .before .before .before
+
 cut-of
     : (t : ℕ) (c : build-recursive-lts.After-cut (R t) (build-recursive-at t) build-recursive.Post)
-    → Cut (c .before .before .before .before .before .before .before .before .before .before .before .before .before .args .os .now) (c .cut .last .0) (c .cut .result)
+    → Cut (start-of t c .args .os .now) (c .cut .last .0) (c .cut .result)
 cut-of t c =
     let s = c .before .before .before in
     let o = s .before .before .before .before in
@@ -83,7 +90,7 @@ back-of : (t : ℕ) (c : build-recursive-lts.After-build-recursive (R t) (build-
     → length (c .build-recursive .last .1 .0 ++ drop
     (c .before .before .before .before .before .before .before .cut .result)
     (c .before .before .before .before .before .before .before .cut .last .0))
-    ≡ length (c .before .before .before .before .before .before .before .before .before .before .before .before .before .before .before .before .before .before .before .before .args .os .now)
+    ≡ length (start-of t (c .before .before .before .before .before .before .before) .args .os .now)
 back-of t c =
     back-length _ _ (c .build-recursive .last .1 .0) _ (cut-of t (c .before .before .before .before .before .before .before))
     (c .build-recursive .kept .1 .0)
@@ -118,7 +125,9 @@ build-recursive-put-node-requires t c κs = search needs
 
 build-recursive-add-t27
     : (t : ℕ) → build-recursive-lts.Need-add-t27 (R t) (build-recursive-at t) build-recursive.Post
-build-recursive-add-t27 t c = omega (arith, (c .before .before .before .before .before .before .before .before .before .before .before .before .if1 .left))
+build-recursive-add-t27 t c =
+    let b = c .before .before .before .before .before .before in
+    omega (arith, b .before .before .before .before .before .before .if1 .left)
 
 build-recursive-same-length
     : (t : ℕ) → build-recursive-lts.Need-same-length (R t) (build-recursive-at t) build-recursive.Post
@@ -154,13 +163,16 @@ build-recursive-slice-aggregate-build-recursive t c = sym (cut-of t (c .before .
 
 build-recursive-add-build-recursive
     : (t : ℕ) → build-recursive-lts.Need-add-build-recursive (R t) (build-recursive-at t) build-recursive.Post
-build-recursive-add-build-recursive t c = omega (arith, (c .before .before .before .before .before .before .before .before .before .before .before .before .before .before .before .before .if1 .left))
+build-recursive-add-build-recursive t c =
+    let b = c .before .before .before .before .before .before .before .before in
+    omega (arith, b .before .before .before .before .before .before .before .before .if1 .left)
 
 build-recursive-build-recursive-requires :
     (t : ℕ) → build-recursive-lts.Need-build-recursive-requires (R t) (build-recursive-at t) build-recursive.Post
 build-recursive-build-recursive-requires t c κs =
-    let k = cut-of t (c .before .before .before .before .before .before) in
-    (omega (arith, c .before .before .before .before .before .before .before .before .before .before .before .before .before .before .before .before .before .before .before .pre .0), tt)
+    let b = c .before .before .before .before .before .before in
+    let k = cut-of t b in
+    (omega (arith, start-of t b .pre .0), tt)
 
 build-recursive-narrow-requires-3
     : (t : ℕ) → build-recursive-lts.Need-narrow-requires-3 (R t) (build-recursive-at t) build-recursive.Post
@@ -177,20 +189,24 @@ build-recursive-wrapping-add-usize-requires t c κs = search needs
 build-recursive-mul-build-recursive
     : (t : ℕ) → build-recursive-lts.Need-mul-build-recursive (R t) (build-recursive-at t) build-recursive.Post
 build-recursive-mul-build-recursive t c =
-    let k = cut-of t (c .before .before .before .before .before .before .before .before .before .before .before .before .before .before) in
-    omega (arith, c .before .before .before .before .before .before .before .before .before .before .before .before .before .before .before .before .before .before .before .before .before .before .before .before .before .before .before .good .1 .0 .1)
+    let b = c .before .before .before .before .before .before .before in
+    let d = b .before .before .before .before .before .before .before in
+    let k = cut-of t d in
+    omega (arith, start-of t d .good .1 .0 .1)
 
 build-recursive-sub-build-recursive
     : (t : ℕ) → build-recursive-lts.Need-sub-build-recursive (R t) (build-recursive-at t) build-recursive.Post
 build-recursive-sub-build-recursive t c =
-    let k = cut-of t (c .before .before .before .before .before .before .before .before .before .before .before .before .before .before) in
-    omega (arith, back-of t (c .before .before .before .before .before .before .before))
+    let b = c .before .before .before .before .before .before .before in
+    let k = cut-of t (b .before .before .before .before .before .before .before) in
+    omega (arith, back-of t b)
 
 build-recursive-part-build-recursive-start :
     (t : ℕ) → build-recursive-lts.Need-part-build-recursive-start (R t) (build-recursive-at t) build-recursive.Post
 build-recursive-part-build-recursive-start t c =
-    let k = cut-of t (c .before .before .before .before .before .before .before .before .before .before .before .before .before .before) in
-    omega (arith, back-of t (c .before .before .before .before .before .before .before))
+    let b = c .before .before .before .before .before .before .before in
+    let k = cut-of t (b .before .before .before .before .before .before .before) in
+    omega (arith, back-of t b)
 
 build-recursive-part-build-recursive-end :
     (t : ℕ) → build-recursive-lts.Need-part-build-recursive-end (R t) (build-recursive-at t) build-recursive.Post
@@ -202,7 +218,7 @@ build-recursive-build-recursive-requires-2 t c κs =
     let l = c .before .before .before .before .before .before .before .before .before in
     let k = l .before .before .before .before .before .before .before in (
       right-falls _ _ (l .build-recursive .last .1 .0) _ (cut-of t k) (l .build-recursive .kept .1 .0) _
-          (k .before .before .before .before .before .before .before .before .before .before .before .before .before .pre .0),
+          (start-of t k .pre .0),
       tt,
     )
 

@@ -86,30 +86,32 @@ check-sub-returns-3 t c =
 
 check-sub-returns-4 : (t : ℕ) → check-sub-lts.Need-returns-4 (R t) (check-sub-at t) check-sub.Post
 check-sub-returns-4 t c =
-    check-left-bad _ _ _ _ _ _ _ _ (c .before .before .before .before .before .before .before .node-at .ensures) _
-    (c .before .before .before .before .before .before .kind-of .ensures) _
-    (pos-of-ne-zero (c .before .before .before .before .before .before .before .before .if1 .left)) _ _
-    (c .before .before .before .before .k2 .given .1) _ (c .before .before .check-sub .ensures)
+    let p = c .before .before in
+    let k = p .before .before in
+    let o = k .before .before in
+    check-left-bad _ _ _ _ _ _ _ _ (o .before .node-at .ensures) _ (o .kind-of .ensures) _
+    (pos-of-ne-zero (o .before .before .if1 .left)) _ _ (k .k2 .given .1) _ (p .check-sub .ensures)
     (c .enum-told2 .given .1)
 
 check-sub-returns-5 : (t : ℕ) → check-sub-lts.Need-returns-5 (R t) (check-sub-at t) check-sub.Post
 check-sub-returns-5 t c =
-    check-right _ _ _ _ _ _ _ _
-    (c .before .before .before .before .before .before .before .before .before .before .node-at .ensures) _
-    (c .before .before .before .before .before .before .before .before .before .kind-of .ensures) _
-    (pos-of-ne-zero (c .before .before .before .before .before .before .before .before .before .before .before .if1 .left))
-    _ _ (c .before .before .before .before .before .before .before .k2 .given .1) _
-    (c .before .before .before .before .before .check-sub .ensures) _ _ (c .before .before .before .part .given .1) _
-    (c .before .if2 .taken) (c .check-sub2 .ensures)
+    let q = c .before .before .before in
+    let p = q .before .before in
+    let k = p .before .before in
+    let o = k .before .before in
+    check-right _ _ _ _ _ _ _ _ (o .before .node-at .ensures) _ (o .kind-of .ensures) _
+    (pos-of-ne-zero (o .before .before .if1 .left)) _ _ (k .k2 .given .1) _ (p .check-sub .ensures) _ _
+    (q .part .given .1) _ (c .before .if2 .taken) (c .check-sub2 .ensures)
 
 check-sub-returns-6 : (t : ℕ) → check-sub-lts.Need-returns-6 (R t) (check-sub-at t) check-sub.Post
 check-sub-returns-6 t c =
-    check-other _ _ _ _ _ _ _ _
-    (c .before .before .before .before .before .before .before .before .before .node-at .ensures) _
-    (c .before .before .before .before .before .before .before .before .kind-of .ensures) _
-    (pos-of-ne-zero (c .before .before .before .before .before .before .before .before .before .before .if1 .left)) _ _
-    (c .before .before .before .before .before .before .k2 .given .1) _
-    (c .before .before .before .before .check-sub .ensures) _ _ (c .before .before .part .given .1) (c .if2 .left)
+    let q = c .before .before in
+    let p = q .before .before in
+    let k = p .before .before in
+    let o = k .before .before in
+    check-other _ _ _ _ _ _ _ _ (o .before .node-at .ensures) _ (o .kind-of .ensures) _
+    (pos-of-ne-zero (o .before .before .if1 .left)) _ _ (k .k2 .given .1) _ (p .check-sub .ensures) _ _
+    (q .part .given .1) (c .if2 .left)
 
 pub +check-sub-spec : {M : Type 1} → statement M
 +check-sub-spec = close μ-check-sub λ t. check-sub-lts.spec (R t)

@@ -18,10 +18,10 @@ use Rattle.bvh_search.specs.declared.State.{State}
 use Rattle.bvh_search.specs.declared.Pair.{Pair}
 use Rattle.bvh_search.specs.Search.{leafScan, placesOf}
 
-abbrev pub boxGap : Vec3 → Aabb → Vec3  -- the square of a box distance
+abbrev pub boxGap : Vec3 → Aabb → Vec3  -- how far a box is off, on each axis
 boxGap p b = vmax (vmax (vsub (b .lo) p) (vsub p (b .hi))) (vsplat f0)
 
-unfoldable pub boxSquare : Vec3 → Aabb → Float
+unfoldable pub boxSquare : Vec3 → Aabb → Float  -- the square of a box distance
 boxSquare p b = vdot (boxGap p b) (boxGap p b)
 
 abbrev pub holding : State → ℕ → Float → ℕ → State  -- the state with the node a in hand
