@@ -12,7 +12,9 @@ import re
 import sys
 
 # lemmas that would have their function's name
-OTHER = {n: n.replace("-", "_") + "_lem" for n in ("hull-from", "float-of", "one_more", "put-cutters", "lowest-in", "word-of", "is-nan", "piece-by", "built-words", "front-word")}
+OTHER = {n: n.replace("-", "_") + "_lem" for n in ("hull-from", "float-of", "one_more", "put-cutters", "lowest-in", "word-of", "is-nan", "piece-by", "built-words", "front-word",
+                                                       "too-deep", "node-from", "solids-number", "piece-entry", "material-entry",
+                                                       "light-entry", "cutter-by", "head-by", "put-row")}
 
 STOP = r"\s(){}\[\],;.\"⌜⌝@"
 WORD = re.compile(rf"[^{STOP}]+")
@@ -56,8 +58,13 @@ def main():
     declared, fields = {}, set()
     for f in files:
         names, inside = set(), False
-        for l in texts[f].split("\n"):
-            if l[:1] in (" ", "\t"):
+        lines = texts[f].split("\n")
+        blocks = any(re.match(r"\s*module _", l) for l in lines)
+        for l, after in zip(lines, lines[1:] + [""]):
+            if l[:1] == " ":
+                m = blocks and re.match(r"^ +(?:abbrev |unfoldable )?(?:pub )?([^\s:({]+)\s*(:(?: |$)|$)", l)
+                if m and (m.group(2) or re.match(r"^ +:", after)):
+                    names.add(m.group(1))
                 m = inside and (re.match(r"^\s+(?:pub )?((?:[^\s:({]+ )+):(?: |$)", l) or re.match(r"^\s+pub ([^\s:({]+)\s*$", l))
                 if m:
                     fields.update(m.group(1).split())

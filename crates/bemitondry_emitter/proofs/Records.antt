@@ -14,7 +14,7 @@ use mir.Syntax.{w32}
 use mir.Val.{Fits}
 use Rattle.vec.specs.declared.Vec3.{Vec3}
 use Rattle.words.specs.Lists.{list_from}
-use Rattle.words.proofs.Runs.{from-snoc}
+use Rattle.words.proofs.Runs.{from_snoc}
 use Rattle.plan.specs.declared.QuadLight.{QuadLight}
 use Rattle.emitter.specs.declared.Emitted.{Emitted}
 use Rattle.emitter.specs.declared.Emitted.TheVariants.{Nothing}
@@ -29,20 +29,20 @@ records_fit n e =
     record { fits = omega arith }
 
 module _ (ro rd : Vec3) (tmax : Float) where
-  emitter-snoc
+  emitter_snoc
       : (best : Emitted) (ls : List QuadLight) (l : QuadLight)
       → emitter_from ro rd tmax best (ls ++ (l ∷ [])) ≡ emitter_step ro rd tmax (emitter_from ro rd tmax best ls) l
   unfolding emitter_from
-  emitter-snoc best [] l = refl
-  emitter-snoc best (k ∷ ls) l = emitter-snoc (emitter_step ro rd tmax best k) ls l
+  emitter_snoc best [] l = refl
+  emitter_snoc best (k ∷ ls) l = emitter_snoc (emitter_step ro rd tmax best k) ls l
 
-  pub emitter-none : (b : List ℕ) → emitter_of (list_from (lent_light b) 0 0) ro rd tmax ≡ Nothing
+  pub emitter_none : (b : List ℕ) → emitter_of (list_from (lent_light b) 0 0) ro rd tmax ≡ Nothing
   unfolding emitter_of emitter_from list_from
-  emitter-none b = refl
+  emitter_none b = refl
 
-  pub emitter-more
+  pub emitter_more
       : (b : List ℕ) (i : ℕ)
       → emitter_of (list_from (lent_light b) 0 (i + 1)) ro rd tmax
       ≡ emitter_step ro rd tmax (emitter_of (list_from (lent_light b) 0 i) ro rd tmax) (lent_light b (0 + i))
   unfolding emitter_of
-  emitter-more b i = rw (add-one, from-snoc (lent_light b) 0 i, emitter-snoc)
+  emitter_more b i = rw (add-one, from_snoc (lent_light b) 0 i, emitter_snoc)

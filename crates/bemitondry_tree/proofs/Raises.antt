@@ -16,21 +16,21 @@ use Rattle.refusals.proofs.Lowest.{lower_zero}
 use Rattle.plan.specs.Sections.{objects}
 use Rattle.plan.specs.Plan.{Plan, plan_of, count_of}
 use Rattle.plan_test.specs.Tests.{objects_number}
-use Rattle.plan_test.proofs.Exact.{objects-exact}
+use Rattle.plan_test.proofs.Exact.{objects_exact}
 use Rattle.bvh_boxes.specs.Boxes.{boxes_of}
-use Rattle.bvh_boxes.proofs.Lists.{boxes_length, box-count}
+use Rattle.bvh_boxes.proofs.Lists.{boxes_length, box_count}
 use Rattle.bvh_rules.specs.declared.Sub.{Sub}
 use Rattle.bvh_rules.specs.declared.Sub.TheVariants.{Bad, Good}
 use Rattle.bvh_rules.specs.Nodes.{nodes_of, order_of}
 use Rattle.bvh_rules.specs.Check.{judge_of}
 use Rattle.bvh_rules.proofs.Lists.{nodes_length}
-use Rattle.bvh_rules.proofs.Trees.{stands-fit}
-use Rattle.bvh_rules.proofs.Exact.{tree-told}
+use Rattle.bvh_rules.proofs.Trees.{stands_fit}
+use Rattle.bvh_rules.proofs.Exact.{tree_told}
 use Rattle.bvh_build.specs.declared.Built.{Built}
 use Rattle.bvh_build.specs.Inside.Narrow.{low32}
 use Rattle.bvh_build.specs.Tables.{size_of, low_enough, nodes_with, order_with}
 use Rattle.bvh_build.specs.Inside.Lays.{Builds}
-use Rattle.bvh_build.proofs.Meets.{built-size}
+use Rattle.bvh_build.proofs.Meets.{built_size}
 use Rattle.reply.specs.declared.Reply.{Reply}
 use Rattle.reply.specs.Reply.{refused_reply, one_word, reply_of}
 use Rattle.bemitondry_tree.specs.Trees.{no_nodes, no_order, build_number, judged_tree, offered_tree}
@@ -39,7 +39,7 @@ use Rattle.bemitondry_tree.specs.Trees.{offer_number, size_in, front_word}
 use Rattle.bemitondry_tree.specs.Inside.Leaves.{OfferLeaves}
 
 few_objects : (p : Plan) → objects_number p ≡ 0 → length p.objects ≤ 256
-few_objects p e = ((objects-exact p).0 e).counts.objects
+few_objects p e = ((objects_exact p).0 e).counts.objects
 
 fits_word : (x : ℕ) → x ≤ 511 → low32 x ≡ x
 fits_word x h = let l : x < 4294967296 = omega arith in rw (lt-ltb x 4294967296 l)
@@ -64,13 +64,13 @@ cleared w m n l e = e ∙ ap (λ (k : ℕ). replicate k 0) l
 
 -- ---- a build
 module _ (before : ℕ) (p : Plan) where
-  of-built : objects_number p ≡ 0 → build_number before p ≡ lower before (unless too_deep (low_enough p))
+  of_built : objects_number p ≡ 0 → build_number before p ≡ lower before (unless too_deep (low_enough p))
   unfolding build_number
-  of-built e = rw (eq-eqb _ 0 e)
+  of_built e = rw (eq-eqb _ 0 e)
 
-  of-broken : (objects_number p ≡ 0 → ⊥) → build_number before p ≡ lower before (objects_number p)
+  of_broken : (objects_number p ≡ 0 → ⊥) → build_number before p ≡ lower before (objects_number p)
   unfolding build_number
-  of-broken e = rw (ne_eqb _ 0 e)
+  of_broken e = rw (ne_eqb _ 0 e)
 
   module _ (o n : ℕ) (nw ow : List ℕ) (b : Built) (nw' ow' : List ℕ) (u : ℕ) (eo : o ≡ objects_number p) (z : o ≡ 0)
       (B : length p.objects ≤ 256 → Builds p nw ow b nw' ow') (eu : u ≡ unless 7 b.low)
@@ -82,7 +82,7 @@ module _ (before : ℕ) (p : Plan) where
     built = B (few_objects p sound)
 
     number : n ≡ build_number before p
-    number = en ∙ ap (lower before) (eu ∙ ap (unless 7) built.low_is) ∙ sym (of-built sound)
+    number = en ∙ ap (lower before) (eu ∙ ap (unless 7) built.low_is) ∙ sym (of_built sound)
 
     pub builds : (a b' k : ℕ) (r : Reply) → a ≡ 4599 → b' ≡ 256
         → nw ≡ replicate a 0 → ow ≡ replicate b' 0 → n ≡ 0 → k ≡ low32 b.next → r ≡ one_word k
@@ -90,30 +90,30 @@ module _ (before : ℕ) (p : Plan) where
     builds a b' k r ln lo zn zo e ek er =
         let zero = sym number ∙ e in
         let size : k ≡ size_of p = ek ∙ ap low32 built.next_is ∙ fits_word (size_of p)
-        (built-size p (few_objects p sound)) in
+        (built_size p (few_objects p sound)) in
         record {
           reply = replied _ r _ zero (er ∙ ap one_word size);
           nodes = written _ nw' _ _ zero (built.nodes_are ∙ ap (nodes_with p) (cleared nw a 4599 ln zn));
           order = written _ ow' _ _ zero (built.order_is ∙ ap (order_with p) (cleared ow b' 256 lo zo));
         }
 
-    pub builds-deep : (nw'' ow'' : List ℕ) (a b' : ℕ) (r : Reply) → a ≡ 4599 → b' ≡ 256
+    pub builds_deep : (nw'' ow'' : List ℕ) (a b' : ℕ) (r : Reply) → a ≡ 4599 → b' ≡ 256
         → nw'' ≡ replicate a 0 → ow'' ≡ replicate b' 0 → (n ≡ 0 → ⊥) → r ≡ refused_reply n
         → BuildLeaves before p r nw'' ow''
-    builds-deep nw'' ow'' a b' r ln lo zn zo e er =
+    builds_deep nw'' ow'' a b' r ln lo zn zo e er =
         record {
           reply = refuses n _ r _ number e er;
           nodes = zeroed n _ nw'' _ _ number e (cleared nw'' a 4599 ln zn);
           order = zeroed n _ ow'' _ _ number e (cleared ow'' b' 256 lo zo);
         }
 
-  pub builds-not
+  pub builds_not
       : (o n : ℕ) (nw ow : List ℕ) (a b' : ℕ) (r : Reply) → o ≡ objects_number p → (o ≡ 0 → ⊥)
       → n ≡ lower before o
       → a ≡ 4599 → b' ≡ 256 → nw ≡ replicate a 0 → ow ≡ replicate b' 0 → r ≡ refused_reply n
       → BuildLeaves before p r nw ow
-  builds-not o n nw ow a b' r eo z en ln lo zn zo er =
-      let number : n ≡ build_number before p = en ∙ ap (lower before) eo ∙ sym (of-broken (λ h. z (eo ∙ h))) in
+  builds_not o n nw ow a b' r eo z en ln lo zn zo er =
+      let number : n ≡ build_number before p = en ∙ ap (lower before) eo ∙ sym (of_broken (λ h. z (eo ∙ h))) in
       let some : n ≡ 0 → ⊥ = λ h. z ((lower_zero before o).0 (sym en ∙ h)).1 in
       record {
         reply = refuses n _ r _ number some er;
@@ -132,9 +132,9 @@ module _ (w : List ℕ) (f : List Float) (long : length w ≡ 27296) (sound : ob
   abbrev bs : List Aabb
   bs = boxes_of (plan_of w f)
 
-  judged-few : size_in (judged_tree w f) ≤ 511
+  judged_few : size_in (judged_tree w f) ≤ 511
   unfolding judged_tree
-  judged-few = go (eqb (length bs) 0) refl (judge_of 64 (nodes_of w) (nodes_of f) (order_of w) bs) refl
+  judged_few = go (eqb (length bs) 0) refl (judge_of 64 (nodes_of w) (nodes_of f) (order_of w) bs) refl
     where
       few : length bs ≤ 256
       few = omega (arith, boxes_length (plan_of w f), few_objects (plan_of w f) sound)
@@ -148,24 +148,24 @@ module _ (w : List ℕ) (f : List Float) (long : length w ≡ 27296) (sound : ob
           ∙ q) in omega arith
       go false n (Good next end) q =
           let some : 0 < length bs = omega (arith, eqb-false (length bs) 0 n) in
-          let t = tree-told (nodes_of w) (nodes_of f) (order_of w) bs (nodes_length w long) few next end some q in
+          let t = tree_told (nodes_of w) (nodes_of f) (order_of w) bs (nodes_length w long) few next end some q in
           omega (
             arith,
             t.1.1,
-            stands-fit (nodes_of w) (nodes_of f) (nodes_length w long) 0 0 t.0
+            stands_fit (nodes_of w) (nodes_of f) (nodes_length w long) 0 0 t.0
                 t.1.0.holds.stands,
           )
 
 module _ (before : ℕ) (w : List ℕ) (f : List Float) where
-  of-offered : objects_number (plan_of w f) ≡ 0 → offer_number before w f ≡ lower before (offered_tree w f)
+  of_offered : objects_number (plan_of w f) ≡ 0 → offer_number before w f ≡ lower before (offered_tree w f)
   unfolding offer_number
-  of-offered e = rw (eq-eqb _ 0 e)
+  of_offered e = rw (eq-eqb _ 0 e)
 
-  of-not
+  of_not
       : (objects_number (plan_of w f) ≡ 0 → ⊥)
       → offer_number before w f ≡ lower before (objects_number (plan_of w f))
   unfolding offer_number
-  of-not e = rw (ne_eqb _ 0 e)
+  of_not e = rw (ne_eqb _ 0 e)
 
   module _ (o n u : ℕ) (s : Sub) (eo : o ≡ objects_number (plan_of w f)) (z : o ≡ 0) (es : s ≡ judged_tree w f)
       (eu : s ≡ judged_tree w f → u ≡ offered_tree w f) (en : n ≡ lower before u) where
@@ -173,7 +173,7 @@ module _ (before : ℕ) (w : List ℕ) (f : List Float) where
     given = sym eo ∙ z
 
     offered : n ≡ offer_number before w f
-    offered = en ∙ ap (lower before) (eu es) ∙ sym (of-offered given)
+    offered = en ∙ ap (lower before) (eu es) ∙ sym (of_offered given)
 
     pub offers
         : length w ≡ 27296 → (k m c : ℕ) (nw ow : List ℕ) (a b' : ℕ) (r : Reply) → a ≡ 4599
@@ -184,30 +184,30 @@ module _ (before : ℕ) (w : List ℕ) (f : List Float) where
     offers long k m c nw ow a b' r ln lo e em ek ec zn zo er =
         let zero = sym offered ∙ e in
         let size : k ≡ size_in (judged_tree w f) = ek ∙ ap low32 (em ∙ ap size_in es) ∙ fits_word _
-        (judged-few w f long given) in
+        (judged_few w f long given) in
         record {
           reply = replied _ r _ zero (er ∙ ap one_word size);
           nodes = written _ nw _ _ zero (zn ∙ rw (ln, size));
           order = written _ ow _ _ zero (zo ∙ rw (lo, ec));
         }
 
-    pub offers-bad : (nw ow : List ℕ) (a b' : ℕ) (r : Reply) → a ≡ 4599 → b' ≡ 256
+    pub offers_bad : (nw ow : List ℕ) (a b' : ℕ) (r : Reply) → a ≡ 4599 → b' ≡ 256
         → nw ≡ replicate a 0 → ow ≡ replicate b' 0 → (n ≡ 0 → ⊥) → r ≡ refused_reply n
         → OfferLeaves before w f r nw ow
-    offers-bad nw ow a b' r ln lo zn zo e er =
+    offers_bad nw ow a b' r ln lo zn zo e er =
         record {
           reply = refuses n _ r _ offered e er;
           nodes = zeroed n _ nw _ _ offered e (cleared nw a 4599 ln zn);
           order = zeroed n _ ow _ _ offered e (cleared ow b' 256 lo zo);
         }
 
-  pub offers-not
+  pub offers_not
       : (o n : ℕ) (nw ow : List ℕ) (a b' : ℕ) (r : Reply) → o ≡ objects_number (plan_of w f)
       → (o ≡ 0 → ⊥) → n ≡ lower before o
       → a ≡ 4599 → b' ≡ 256 → nw ≡ replicate a 0 → ow ≡ replicate b' 0 → r ≡ refused_reply n
       → OfferLeaves before w f r nw ow
-  offers-not o n nw ow a b' r eo z en ln lo zn zo er =
-      let number : n ≡ offer_number before w f = en ∙ ap (lower before) eo ∙ sym (of-not (λ h. z (eo ∙ h))) in
+  offers_not o n nw ow a b' r eo z en ln lo zn zo er =
+      let number : n ≡ offer_number before w f = en ∙ ap (lower before) eo ∙ sym (of_not (λ h. z (eo ∙ h))) in
       let some : n ≡ 0 → ⊥ = λ h. z ((lower_zero before o).0 (sym en ∙ h)).1 in
       record {
         reply = refuses n _ r _ number some er;

@@ -5,12 +5,12 @@ use lib.ListN.{replicate-append-replicate}
 use lib.Ieee.{Float, nan}
 use Rattle.sdf.specs.declared.Aabb.{Aabb}
 use Rattle.words.specs.Lists.{list_from}
-use Rattle.words.proofs.Runs.{getD-from}
+use Rattle.words.proofs.Runs.{get_d_from}
 use Rattle.bvh_boxes.specs.Boxes.{nowhere, merge, box_at}
 use Rattle.bvh_range.specs.declared.Row.{Row}
 use Rattle.bvh_range.specs.Inside.Table.{table_boxes, box_of_row, with_row}
 use Rattle.bvh_range.specs.Range.{members}
-use Rattle.bvh_range.proofs.Members.{members-more, members-none}
+use Rattle.bvh_range.proofs.Members.{members_more, members_none}
 use Rattle.bvh_range.proofs.Table.{box_count, length_put_row, rows_put}
 use Rattle.bvh_bins.specs.declared.Grid.{Grid}
 use Rattle.bvh_bins.specs.declared.Sweep.{Sweep}
@@ -20,15 +20,15 @@ use Rattle.bvh_bins.specs.Inside.Sums.{binned, left_area, left_through}
 
 -- ---- over the objects of a range
 module _ (bs : List Aabb) (os : List ℕ) (i : ℕ) where
-  bins-more : (g : Grid) (σ : Bins) → i < length os
+  bins_more : (g : Grid) (σ : Bins) → i < length os
       → bins_from g σ (members bs (drop i os)) ≡ bins_from g (drop_in g σ (box_at bs (get_or os i 0)))
       (members bs (drop (i + 1) os))
   unfolding bins_from
-  bins-more g σ h = rw (members-more bs os i h)
+  bins_more g σ h = rw (members_more bs os i h)
 
-  pub bins-none : (g : Grid) (σ : Bins) → length os ≤ i → bins_from g σ (members bs (drop i os)) ≡ σ
+  pub bins_none : (g : Grid) (σ : Bins) → length os ≤ i → bins_from g σ (members bs (drop i os)) ≡ σ
   unfolding bins_from
-  bins-none g σ h = rw (members-none bs os i h)
+  bins_none g σ h = rw (members_none bs os i h)
 
 -- a box dropped into the two arrays is dropped into the bins that they hold
 drop_binned : (g : Grid) (f f' : List Float) (n n' : List ℕ) (k : ℕ) (m : Aabb) → k ≡ bin_of g m
@@ -46,17 +46,17 @@ pub bins_turn
     → bins_from g (binned f n) (members bs (drop i os)) ≡ σ → bins_from g (binned f' n')
     (members bs (drop (i + 1) os)) ≡ σ
 bins_turn bs os i g f f' n n' k m σ h e₁ e₂ p q v =
-    rw (drop_binned g f f' n n' k m e₂ p q, e₁) (sym (bins-more bs os i g (binned f n) h) ∙ v)
+    rw (drop_binned g f f' n n' k m e₂ p q, e₁) (sym (bins_more bs os i g (binned f n) h) ∙ v)
 
 -- ---- a table filled with empty boxes
 module _ (t t' : List Float) (k : ℕ) (b : Row) (p : t' ≡ with_row t k b) where
-  pub length-turn : length t' ≡ length t
-  length-turn = ap length p ∙ length_put_row t k b
+  pub length_turn : length t' ≡ length t
+  length_turn = ap length p ∙ length_put_row t k b
 
-  pub empty-turn
+  pub empty_turn
       : box_of_row b ≡ nowhere → k < length t / 8 → take k (table_boxes t) ≡ replicate k nowhere
       → take (k + 1) (table_boxes t') ≡ replicate (k + 1) nowhere
-  empty-turn e h q =
+  empty_turn e h q =
       rw (p, rows_put, e, add-one, take-suc-set (table_boxes t) k nowhere (omega (arith, box_count t)), q)
       (replicate-append-replicate k 1 nowhere ∙ ap (λ (n : ℕ). replicate n nowhere) (add-one k))
 
@@ -70,24 +70,24 @@ empty_all t k n e h h' p =
 
 -- ---- over the bins, from the left
 module _ (σ : Bins) (i : ℕ) where
-  pub box-turn
+  pub box_turn
       : (h h' m : Aabb) → h' ≡ merge h m → m ≡ box_at σ.boxes i → h ≡ left_box σ i
       → h' ≡ left_box σ (i + 1)
   unfolding left_box
-  box-turn h h' m p q e = rw (p, q, e, add-one)
+  box_turn h h' m p q e = rw (p, q, e, add-one)
 
   pub count_turn
       : (n n' : ℕ) → n' ≡ plus n (get_or σ.counts i 0) → n ≡ left_count σ i → n' ≡ left_count σ (i + 1)
   unfolding left_count
   count_turn n n' p e = rw (p, e, add-one)
 
-  pub area-turn : (h : Aabb) (v : Float) → v ≡ area h → h ≡ left_box σ (i + 1) → v ≡ left_area σ i
+  pub area_turn : (h : Aabb) (v : Float) → v ≡ area h → h ≡ left_box σ (i + 1) → v ≡ left_area σ i
   unfolding left_area
-  area-turn h v p e = rw (p, e, add-one)
+  area_turn h v p e = rw (p, e, add-one)
 
-  pub through-turn : (n : ℕ) → n ≡ left_count σ (i + 1) → n ≡ left_through σ i
+  pub through_turn : (n : ℕ) → n ≡ left_count σ (i + 1) → n ≡ left_through σ i
   unfolding left_through
-  through-turn n e = rw (e, add-one)
+  through_turn n e = rw (e, add-one)
 
 -- one split more, with the left sums read from their lists
 pub sweep_more : (σ : Bins) (areas : List Float) (counts : List ℕ) (i : ℕ) (s : Sweep) → 0 < i → i ≤ 11
@@ -101,7 +101,7 @@ sweep_more σ areas counts zero s h l p q = absurd (omega arith)
 sweep_more σ areas counts (suc k) s h l p q =
     let z : suc k - 1 ≡ k = omega arith in
     let y : 0 + k ≡ k = omega arith in
-    rw (z, p, q, getD-from (left_area σ) 0 12 k nan (omega arith), getD-from (left_through σ) 0 12 k 0 (omega arith), y)
+    rw (z, p, q, get_d_from (left_area σ) 0 12 k nan (omega arith), get_d_from (left_through σ) 0 12 k 0 (omega arith), y)
 
 pub sweep_none : (σ : Bins) (i : ℕ) (s : Sweep) → i ≤ 0 → sweep_from σ i s ≡ s
 unfolding sweep_from

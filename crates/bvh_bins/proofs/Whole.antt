@@ -57,15 +57,15 @@ module _ (a d v : ℕ) (h : a * 2 ^ 149 ≡ v * d) (p : 0 < d) where
       (subst (λ (n : ℕ). 2 ^ 148 * d < n) (mul_assoc a 2 (2 ^ 148) ∙ h)
       (subst (λ (n : ℕ). n < a * 2 * 2 ^ 148) (mul_comm d (2 ^ 148)) (mul-lt-mul_of_pos_right l (pow_pos 148))))
 
-  below-eleven : a < 11 * d → v < 11 * 2 ^ 149
-  below-eleven l =
+  below_eleven : a < 11 * d → v < 11 * 2 ^ 149
+  below_eleven l =
       lt_of_mul-lt-mul_right d
       (subst (λ (n : ℕ). n < 11 * 2 ^ 149 * d) h
       (subst (λ (n : ℕ). a * 2 ^ 149 < n) (mul_assoc 11 d (2 ^ 149) ∙ ap (λ (n : ℕ). 11 * n) (mul_comm d (2 ^ 149))
       ∙ sym (mul_assoc 11 (2 ^ 149) d)) (mul-lt-mul_of_pos_right l (pow_pos 149))))
 
-  same-quotient : a / d ≡ v / 2 ^ 149
-  same-quotient =
+  same_quotient : a / d ≡ v / 2 ^ 149
+  same_quotient =
       sym (mul-div-mul_right {m = 2 ^ 149} a d (pow_pos 149))
       ∙ ap (λ (n : ℕ). n / (d * 2 ^ 149)) h
       ∙ ap (λ (n : ℕ). v * d / n) (mul_comm d (2 ^ 149))
@@ -105,7 +105,7 @@ between m e f g h =
     let d = down e in
     let v1 = above_half a d (val p) v (down_pos e) (omega arith) in
     let l : 0x3f00_0000 < p = lt_of_val {p = 0x3f00_0000} {q = p} v1 in
-    let v2 = below-eleven a d (val p) v (down_pos e) (omega arith) in
+    let v2 = below_eleven a d (val p) v (down_pos e) (omega arith) in
     let u : p < 0x4130_0000 = lt_of_val {p = p} {q = 0x4130_0000} v2 in
     let low : 126 ≤ p / 8388608 = omega arith in
     let high : p / 8388608 ≤ 130 = omega arith in
@@ -114,7 +114,7 @@ between m e f g h =
       number = tt;
       low = low;
       high = high;
-      is = sym (val_cut p low high) ∙ sym (same-quotient a d (val p) v (down_pos e)) ∙ sym (few_cut (a / d) few);
+      is = sym (val_cut p low high) ∙ sym (same_quotient a d (val p) v (down_pos e)) ∙ sym (few_cut (a / d) few);
     }
 
 inner : (x : Float) → T (fits binary32 x) → lt half x ≡ true → lt x eleven ≡ true → Cuts x x

@@ -16,19 +16,19 @@ use Rattle.bvh_boxes.specs.Boxes.{finite_box, all_at_most, inside, nowhere, merg
 use Rattle.bvh_boxes.specs.Inside.Hulls.{hull_from}
 use Rattle.bvh_boxes.proofs.Vectors.{Below, Finite, below_of, of_below, finite_of, of_finite, at_least}
 use Rattle.bvh_boxes.proofs.Vectors.{at_most}
-use Rattle.bvh_boxes.proofs.Vectors.{finite_numbers, fmin_top, fmax_bottom, below_refl, below_trans, vmin-left}
-use Rattle.bvh_boxes.proofs.Vectors.{vmin-right, vmin-greatest, vmax-left, vmax-right, vmax-least, vmin-finite}
-use Rattle.bvh_boxes.proofs.Vectors.{vmax-finite}
+use Rattle.bvh_boxes.proofs.Vectors.{finite_numbers, fmin_top, fmax_bottom, below_refl, below_trans, vmin_left}
+use Rattle.bvh_boxes.proofs.Vectors.{vmin_right, vmin_greatest, vmax_left, vmax_right, vmax_least, vmin_finite}
+use Rattle.bvh_boxes.proofs.Vectors.{vmax_finite}
 
 -- ---- a test of boxes is one of each corner
 module _ (a b : Aabb) (h : T (inside a b)) where
-  pub inside-lo : Below b.lo a.lo
+  pub inside_lo : Below b.lo a.lo
   unfolding inside
-  inside-lo = below_of b.lo a.lo (and_l (all_at_most b.lo a.lo) (all_at_most a.hi b.hi) h)
+  inside_lo = below_of b.lo a.lo (and_l (all_at_most b.lo a.lo) (all_at_most a.hi b.hi) h)
 
-  pub inside-hi : Below a.hi b.hi
+  pub inside_hi : Below a.hi b.hi
   unfolding inside
-  inside-hi = below_of a.hi b.hi (and_r (all_at_most b.lo a.lo) (all_at_most a.hi b.hi) h)
+  inside_hi = below_of a.hi b.hi (and_r (all_at_most b.lo a.lo) (all_at_most a.hi b.hi) h)
 
 inside_by : (a b : Aabb) → Below b.lo a.lo → Below a.hi b.hi → T (inside a b)
 unfolding inside
@@ -36,13 +36,13 @@ inside_by a b h k =
     and_i (all_at_most b.lo a.lo) (all_at_most a.hi b.hi) (of_below b.lo a.lo h) (of_below a.hi b.hi k)
 
 module _ (a : Aabb) (h : T (finite_box a)) where
-  pub finite-lo : Finite a.lo
+  pub finite_lo : Finite a.lo
   unfolding finite_box
-  finite-lo = finite_of a.lo (and_l (within a.lo greatest) (within a.hi greatest) h)
+  finite_lo = finite_of a.lo (and_l (within a.lo greatest) (within a.hi greatest) h)
 
-  pub finite-hi : Finite a.hi
+  pub finite_hi : Finite a.hi
   unfolding finite_box
-  finite-hi = finite_of a.hi (and_r (within a.lo greatest) (within a.hi greatest) h)
+  finite_hi = finite_of a.hi (and_r (within a.lo greatest) (within a.hi greatest) h)
 
 pub finite_by : (a : Aabb) → Finite a.lo → Finite a.hi → T (finite_box a)
 unfolding finite_box
@@ -51,44 +51,44 @@ finite_by a h k = and_i (within a.lo greatest) (within a.hi greatest) (of_finite
 -- ---- `inside` is an order
 pub inside_refl : (a : Aabb) → T (finite_box a) → T (inside a a)
 inside_refl a h =
-    inside_by a a (below_refl a.lo (finite_numbers a.lo (finite-lo a h)))
-    (below_refl a.hi (finite_numbers a.hi (finite-hi a h)))
+    inside_by a a (below_refl a.lo (finite_numbers a.lo (finite_lo a h)))
+    (below_refl a.hi (finite_numbers a.hi (finite_hi a h)))
 
 pub inside_trans : (a b c : Aabb) → T (inside a b) → T (inside b c) → T (inside a c)
 inside_trans a b c h k =
     inside_by a c
-    (below_trans c.lo b.lo a.lo (inside-lo b c k) (inside-lo a b h))
-    (below_trans a.hi b.hi c.hi (inside-hi a b h) (inside-hi b c k))
+    (below_trans c.lo b.lo a.lo (inside_lo b c k) (inside_lo a b h))
+    (below_trans a.hi b.hi c.hi (inside_hi a b h) (inside_hi b c k))
 
 -- ---- a merge is the least box around two
 module _ (a b : Aabb) where
-  pub merge-finite : T (finite_box a) → T (finite_box b) → T (finite_box (merge a b))
+  pub merge_finite : T (finite_box a) → T (finite_box b) → T (finite_box (merge a b))
   unfolding merge
-  merge-finite h k =
+  merge_finite h k =
       finite_by (merge a b)
-      (vmin-finite a.lo b.lo (finite-lo a h) (finite-lo b k))
-      (vmax-finite a.hi b.hi (finite-hi a h) (finite-hi b k))
+      (vmin_finite a.lo b.lo (finite_lo a h) (finite_lo b k))
+      (vmax_finite a.hi b.hi (finite_hi a h) (finite_hi b k))
 
-  pub merge-left : T (finite_box a) → T (inside a (merge a b))
+  pub merge_left : T (finite_box a) → T (inside a (merge a b))
   unfolding merge
-  merge-left h =
+  merge_left h =
       inside_by a (merge a b)
-      (vmin-left a.lo b.lo (finite_numbers a.lo (finite-lo a h)))
-      (vmax-left a.hi b.hi (finite_numbers a.hi (finite-hi a h)))
+      (vmin_left a.lo b.lo (finite_numbers a.lo (finite_lo a h)))
+      (vmax_left a.hi b.hi (finite_numbers a.hi (finite_hi a h)))
 
-  pub merge-right : T (finite_box b) → T (inside b (merge a b))
+  pub merge_right : T (finite_box b) → T (inside b (merge a b))
   unfolding merge
-  merge-right h =
+  merge_right h =
       inside_by b (merge a b)
-      (vmin-right a.lo b.lo (finite_numbers b.lo (finite-lo b h)))
-      (vmax-right a.hi b.hi (finite_numbers b.hi (finite-hi b h)))
+      (vmin_right a.lo b.lo (finite_numbers b.lo (finite_lo b h)))
+      (vmax_right a.hi b.hi (finite_numbers b.hi (finite_hi b h)))
 
-  pub merge-least : (c : Aabb) → T (inside a c) → T (inside b c) → T (inside (merge a b) c)
+  pub merge_least : (c : Aabb) → T (inside a c) → T (inside b c) → T (inside (merge a b) c)
   unfolding merge
-  merge-least c h k =
+  merge_least c h k =
       inside_by (merge a b) c
-      (vmin-greatest a.lo b.lo c.lo (inside-lo a c h) (inside-lo b c k))
-      (vmax-least a.hi b.hi c.hi (inside-hi a c h) (inside-hi b c k))
+      (vmin_greatest a.lo b.lo c.lo (inside_lo a c h) (inside_lo b c k))
+      (vmax_least a.hi b.hi c.hi (inside_hi a c h) (inside_hi b c k))
 
 -- ---- the box around nothing is finite, and lies within every finite box
 pub nowhere_finite : T (finite_box nowhere)
@@ -104,8 +104,8 @@ nowhere_finite = finite_by nowhere (record { x = top; y = top; z = top }) (recor
 pub nowhere_inside : (c : Aabb) → T (finite_box c) → T (inside nowhere c)
 unfolding vsplat
 nowhere_inside c h =
-    let l = finite-lo c h in
-    let u = finite-hi c h in
+    let l = finite_lo c h in
+    let u = finite_hi c h in
     inside_by nowhere c
     (record { x = at_most c.lo.x l.x; y = at_most c.lo.y l.y; z = at_most c.lo.z l.z })
     (record { x = at_least c.hi.x u.x; y = at_least c.hi.y u.y; z = at_least c.hi.z u.z })
@@ -121,23 +121,23 @@ pub hull_finite : (a : Aabb) (bs : List Aabb) → T (finite_box a) → AllFinite
 unfolding hull_from
 hull_finite a [] h k = h
 hull_finite a (b ∷ bs) h k =
-    hull_finite (merge a b) bs (merge-finite a b h (k 0 (zero-lt-suc (length bs)))) (λ i l. k (suc i) (suc-le-suc l))
+    hull_finite (merge a b) bs (merge_finite a b h (k 0 (zero-lt-suc (length bs)))) (λ i l. k (suc i) (suc-le-suc l))
 
 pub hull_start : (a : Aabb) (bs : List Aabb) → T (finite_box a) → AllFinite bs → T (inside a (hull_from a bs))
 unfolding hull_from
 hull_start a [] h k = inside_refl a h
 hull_start a (b ∷ bs) h k =
-    inside_trans a (merge a b) (hull_from (merge a b) bs) (merge-left a b h)
-    (hull_start (merge a b) bs (merge-finite a b h (k 0 (zero-lt-suc (length bs)))) (λ i l. k (suc i) (suc-le-suc l)))
+    inside_trans a (merge a b) (hull_from (merge a b) bs) (merge_left a b h)
+    (hull_start (merge a b) bs (merge_finite a b h (k 0 (zero-lt-suc (length bs)))) (λ i l. k (suc i) (suc-le-suc l)))
 
 pub hull_each : (a : Aabb) (bs : List Aabb) → T (finite_box a) → AllFinite bs → AllInside bs (hull_from a bs)
 unfolding hull_from
 hull_each a [] h k i l = absurd (not-suc-le-zero l)
 hull_each a (b ∷ bs) h k zero l =
-    inside_trans b (merge a b) (hull_from (merge a b) bs) (merge-right a b (k 0 l))
-    (hull_start (merge a b) bs (merge-finite a b h (k 0 l)) (λ i l. k (suc i) (suc-le-suc l)))
+    inside_trans b (merge a b) (hull_from (merge a b) bs) (merge_right a b (k 0 l))
+    (hull_start (merge a b) bs (merge_finite a b h (k 0 l)) (λ i l. k (suc i) (suc-le-suc l)))
 hull_each a (b ∷ bs) h k (suc i) l =
-    hull_each (merge a b) bs (merge-finite a b h (k 0 (zero-lt-suc (length bs)))) (λ i l. k (suc i) (suc-le-suc l)) i
+    hull_each (merge a b) bs (merge_finite a b h (k 0 (zero-lt-suc (length bs)))) (λ i l. k (suc i) (suc-le-suc l)) i
     (le_of_suc-le-suc l)
 
 pub hull_least
@@ -145,7 +145,7 @@ pub hull_least
 unfolding hull_from
 hull_least a [] c h k = h
 hull_least a (b ∷ bs) c h k =
-    hull_least (merge a b) bs c (merge-least a b c h (k 0 (zero-lt-suc (length bs)))) (λ i l. k (suc i) (suc-le-suc l))
+    hull_least (merge a b) bs c (merge_least a b c h (k 0 (zero-lt-suc (length bs)))) (λ i l. k (suc i) (suc-le-suc l))
 
 -- from nowhere on
 pub hull_whole : (bs : List Aabb) → AllFinite bs → T (finite_box (hull_from nowhere bs))

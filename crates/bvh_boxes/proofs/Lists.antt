@@ -7,7 +7,7 @@ use lib.ListN.{length, length-map}
 use lib.Ieee.{Float}
 use Rattle.sdf.specs.declared.Aabb.{Aabb}
 use Rattle.words.specs.Lists.{list_from}
-use Rattle.words.proofs.Runs.{getD-from, get_d_past, length_from}
+use Rattle.words.proofs.Runs.{get_d_from, get_d_past, length_from}
 use Rattle.plan.specs.Sections.{objects}
 use Rattle.plan.specs.Plan.{Plan, Piece, piece_at, pieces_from, count_of, plan_of}
 use Rattle.bvh_boxes.specs.Boxes.{object_box, boxes_of, box_at, no_box}
@@ -26,16 +26,16 @@ abbrev pub row_box : List ℕ → List Float → ℕ → Aabb
 row_box w f r = object_box (piece_at w f r)
 
 module _ (w : List ℕ) (f : List Float) where
-  pub boxes-rows : boxes_of (plan_of w f) ≡ list_from (row_box w f) objects.first (count_of objects w)
+  pub boxes_rows : boxes_of (plan_of w f) ≡ list_from (row_box w f) objects.first (count_of objects w)
   unfolding boxes_of plan_of pieces_from
-  boxes-rows = map_from (piece_at w f) objects.first (count_of objects w)
+  boxes_rows = map_from (piece_at w f) objects.first (count_of objects w)
 
-  pub box-count : length (boxes_of (plan_of w f)) ≡ count_of objects w
-  box-count = rw boxes-rows (length_from (row_box w f) objects.first (count_of objects w))
+  pub box_count : length (boxes_of (plan_of w f)) ≡ count_of objects w
+  box_count = rw boxes_rows (length_from (row_box w f) objects.first (count_of objects w))
 
-  pub box-here
+  pub box_here
       : (o : ℕ) → o < count_of objects w → box_at (boxes_of (plan_of w f)) o ≡ row_box w f (objects.first + o)
-  box-here o h = rw boxes-rows (getD-from (row_box w f) objects.first (count_of objects w) o no_box h)
+  box_here o h = rw boxes_rows (get_d_from (row_box w f) objects.first (count_of objects w) o no_box h)
 
-  pub box-past : (o : ℕ) → count_of objects w ≤ o → box_at (boxes_of (plan_of w f)) o ≡ no_box
-  box-past o h = rw boxes-rows (get_d_past (row_box w f) objects.first (count_of objects w) o no_box h)
+  pub box_past : (o : ℕ) → count_of objects w ≤ o → box_at (boxes_of (plan_of w f)) o ≡ no_box
+  box_past o h = rw boxes_rows (get_d_past (row_box w f) objects.first (count_of objects w) o no_box h)

@@ -109,42 +109,42 @@ below_trans a b c h k =
 
 -- ---- the lesser and the greater
 module _ (a b : Vec3) where
-  pub vmin-left : Numbers a → Below (vmin a b) a
+  pub vmin_left : Numbers a → Below (vmin a b) a
   unfolding vmin
-  vmin-left n =
+  vmin_left n =
       record
       { x = fmin_left a.x b.x n.x; y = fmin_left a.y b.y n.y; z = fmin_left a.z b.z n.z }
 
-  pub vmin-right : Numbers b → Below (vmin a b) b
+  pub vmin_right : Numbers b → Below (vmin a b) b
   unfolding vmin
-  vmin-right n =
+  vmin_right n =
       record
       { x = fmin_right a.x b.x n.x; y = fmin_right a.y b.y n.y; z = fmin_right a.z b.z n.z }
 
-  pub vmin-greatest : (c : Vec3) → Below c a → Below c b → Below c (vmin a b)
+  pub vmin_greatest : (c : Vec3) → Below c a → Below c b → Below c (vmin a b)
   unfolding vmin
-  vmin-greatest c h k =
+  vmin_greatest c h k =
       record {
         x = fmin_greatest c.x a.x b.x h.x k.x;
         y = fmin_greatest c.y a.y b.y h.y k.y;
         z = fmin_greatest c.z a.z b.z h.z k.z;
       }
 
-  pub vmax-left : Numbers a → Below a (vmax a b)
+  pub vmax_left : Numbers a → Below a (vmax a b)
   unfolding vmax
-  vmax-left n =
+  vmax_left n =
       record
       { x = fmax_left a.x b.x n.x; y = fmax_left a.y b.y n.y; z = fmax_left a.z b.z n.z }
 
-  pub vmax-right : Numbers b → Below b (vmax a b)
+  pub vmax_right : Numbers b → Below b (vmax a b)
   unfolding vmax
-  vmax-right n =
+  vmax_right n =
       record
       { x = fmax_right a.x b.x n.x; y = fmax_right a.y b.y n.y; z = fmax_right a.z b.z n.z }
 
-  pub vmax-least : (c : Vec3) → Below a c → Below b c → Below (vmax a b) c
+  pub vmax_least : (c : Vec3) → Below a c → Below b c → Below (vmax a b) c
   unfolding vmax
-  vmax-least c h k =
+  vmax_least c h k =
       record {
         x = fmax_least a.x b.x c.x h.x k.x;
         y = fmax_least a.y b.y c.y h.y k.y;
@@ -155,18 +155,18 @@ module _ (a b : Vec3) where
   abbrev Small : Float → Type 0
   Small r = T (magnitude r greatest)
 
-  pub vmin-finite : Finite a → Finite b → Finite (vmin a b)
+  pub vmin_finite : Finite a → Finite b → Finite (vmin a b)
   unfolding vmin
-  vmin-finite h k =
+  vmin_finite h k =
       record {
         x = fmin_either Small a.x b.x h.x k.x;
         y = fmin_either Small a.y b.y h.y k.y;
         z = fmin_either Small a.z b.z h.z k.z;
       }
 
-  pub vmax-finite : Finite a → Finite b → Finite (vmax a b)
+  pub vmax_finite : Finite a → Finite b → Finite (vmax a b)
   unfolding vmax
-  vmax-finite h k =
+  vmax_finite h k =
       record {
         x = fmax_either Small a.x b.x h.x k.x;
         y = fmax_either Small a.y b.y h.y k.y;

@@ -10,18 +10,18 @@ use Rattle.bvh_range.specs.Range.{members, span_of}
 use Rattle.bvh_range.proofs.Members.{members_length, members_at, span_hull}
 use Rattle.bvh_split.proofs.Perms.{Each}
 use Rattle.bvh_build.specs.Build.{TreeOrder, leaf_of, joined, build_of}
-use Rattle.bvh_build.proofs.Fuel.{stops_at, left_part, right_part, build-each}
-use Rattle.bvh_build.proofs.Same.{left-all, right-all}
+use Rattle.bvh_build.proofs.Fuel.{stops_at, left_part, right_part, build_each}
+use Rattle.bvh_build.proofs.Same.{left_all, right_all}
 use Rattle.bvh_build.proofs.Stands.{Reads, reads_left, reads_right, FitBox, FitTree}
 use Rattle.bvh_build.proofs.Fitting.{hull_fits}
 
 module _ (bs : List Aabb) where
   -- ---- the boxes of a range's members
-  members-all
+  members_all
       : (P : Aabb → Type 0) (os : List ℕ) → Each (λ o. P (box_at bs o)) os → (i : ℕ)
       → i < length (members bs os)
       → P (box_at (members bs os) i)
-  members-all P os h i l =
+  members_all P os h i l =
       let k : i < length os = omega (arith, members_length bs os) in
       subst P (sym (members_at bs os i k)) (h i k)
 
@@ -29,11 +29,11 @@ module _ (bs : List Aabb) where
   abbrev Of : List ℕ → ℕ → Type 0
   Of os o = (j : ℕ) × (j < length os) × (o ≡ get_or os j 0)
 
-  of-all : (os : List ℕ) → Each (Of os) os
-  of-all os i l = (i, l, refl)
+  of_all : (os : List ℕ) → Each (Of os) os
+  of_all os i l = (i, l, refl)
 
-  stand-in : (os xs : List ℕ) → Each (Of os) xs → StandIn (members bs xs) (members bs os)
-  stand-in os xs h i l =
+  stand_in : (os xs : List ℕ) → Each (Of os) xs → StandIn (members bs xs) (members bs os)
+  stand_in os xs h i l =
       let k : i < length xs = omega (arith, members_length bs xs) in
       let j = h i k in (
         j.0,
@@ -55,64 +55,64 @@ module _ (bs : List Aabb) where
     pub boxed : Each Finite os → (o : List ℕ) (s : ℕ) → Reads o s m.order → Boxed o bs s m.tree
 
   module _ (os : List ℕ) where
-    span-finite : Each Finite os → T (finite_box (span_of bs os).hull)
-    span-finite h = rw (span_hull bs os) (hull_whole (members bs os) (members-all (λ b. T (finite_box b)) os h))
+    span_finite : Each Finite os → T (finite_box (span_of bs os).hull)
+    span_finite h = rw (span_hull bs os) (hull_whole (members bs os) (members_all (λ b. T (finite_box b)) os h))
 
     span_fits : Each Fit os → FitBox (span_of bs os).hull
-    span_fits h = rw (span_hull bs os) (hull_fits (members bs os) (members-all FitBox os h))
+    span_fits h = rw (span_hull bs os) (hull_fits (members bs os) (members_all FitBox os h))
 
-    span-holds
+    span_holds
         : Each Finite os → (i : ℕ) → i < length os → T (inside (box_at bs (get_or os i 0)) (span_of bs os).hull)
-    span-holds h i l =
-        let k = hull_holds (members bs os) (members-all (λ b. T (finite_box b)) os h) i
+    span_holds h i l =
+        let k = hull_holds (members bs os) (members_all (λ b. T (finite_box b)) os h) i
         (omega (arith, members_length bs os)) in
         subst₂ (λ (a b : Aabb). T (inside a b)) (members_at bs os i l) (sym (span_hull bs os)) k
 
-    part-inside
+    part_inside
         : (xs : List ℕ) (b : Aabb) → Each (Of os) xs → b ≡ hull_from nowhere (members bs xs) → Each Finite os
         → T (inside b (span_of bs os).hull)
-    part-inside xs b p e h =
+    part_inside xs b p e h =
         subst₂ (λ (a b : Aabb). T (inside a b)) (sym e) (sym (span_hull bs os))
-        (hull_of_some (members bs xs) (members bs os) (members-all (λ b. T (finite_box b)) os h) (stand-in os xs p))
+        (hull_of_some (members bs xs) (members bs os) (members_all (λ b. T (finite_box b)) os h) (stand_in os xs p))
 
-  leaf-tight : (os : List ℕ) → Tight os (leaf_of bs os)
-  leaf-tight os =
+  leaf_tight : (os : List ℕ) → Tight os (leaf_of bs os)
+  leaf_tight os =
       record {
         around = span_hull bs os;
         weighs = refl;
         fit = span_fits os;
         boxed = λ h o s r. (
-          span-finite os h,
+          span_finite os h,
           λ i g l.
               let e : s + (i - s) ≡ i = omega arith in
               let k : i - s < length os = omega arith in
               let v : get_or o i 0 ≡ get_or os (i - s) 0 = ap (λ (j : ℕ). get_or o j 0) (sym e) ∙ r (i - s) k in
-              subst (λ (x : ℕ). T (inside (box_at bs x) (span_of bs os).hull)) (sym v) (span-holds os h (i - s) k),
+              subst (λ (x : ℕ). T (inside (box_at bs x) (span_of bs os).hull)) (sym v) (span_holds os h (i - s) k),
         );
       }
 
-  node-tight
+  node_tight
       : (os : List ℕ) → stops_at bs os ≡ false → (l r : TreeOrder) → Tight (left_part bs os) l
       → Tight (right_part bs os) r
       → Tight os (joined (span_of bs os).hull l r)
-  node-tight os p l r a b =
+  node_tight os p l r a b =
       record {
         around = span_hull bs os;
         weighs = omega (arith, a.weighs, b.weighs, length-append l.order r.order);
-        fit = λ h. (span_fits os h, a.fit (left-all bs os Fit h), b.fit (right-all bs os Fit h));
+        fit = λ h. (span_fits os h, a.fit (left_all bs os Fit h), b.fit (right_all bs os Fit h));
         boxed = λ h o s q. (
-          span-finite os h,
+          span_finite os h,
           (
-            part-inside os (left_part bs os) (hull l.tree) (left-all bs os (Of os) (of-all os)) a.around h,
-            part-inside os (right_part bs os) (hull r.tree) (right-all bs os (Of os) (of-all os)) b.around h,
+            part_inside os (left_part bs os) (hull l.tree) (left_all bs os (Of os) (of_all os)) a.around h,
+            part_inside os (right_part bs os) (hull r.tree) (right_all bs os (Of os) (of_all os)) b.around h,
           ),
           (
-            a.boxed (left-all bs os Finite h) o s (reads_left o s l.order r.order q),
-            b.boxed (right-all bs os Finite h) o (s + weight l.tree)
+            a.boxed (left_all bs os Finite h) o s (reads_left o s l.order r.order q),
+            b.boxed (right_all bs os Finite h) o (s + weight l.tree)
                 (reads_right o s l.order r.order (s + weight l.tree) (omega (arith, a.weighs)) q),
           ),
         );
       }
 
-  pub build-tight : (os : List ℕ) → Tight os (build_of bs os)
-  build-tight os = build-each bs Tight leaf-tight node-tight os
+  pub build_tight : (os : List ℕ) → Tight os (build_of bs os)
+  build_tight os = build_each bs Tight leaf_tight node_tight os

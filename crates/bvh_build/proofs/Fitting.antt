@@ -24,29 +24,29 @@ unfolding vsplat
 splat_fits x h = record { x = h; y = h; z = h }
 
 module _ (a b : Vec3) where
-  vadd-fits : Fit3 (vadd a b)
+  vadd_fits : Fit3 (vadd a b)
   unfolding vadd
-  vadd-fits = record { x = add-fits binary32 _ _; y = add-fits binary32 _ _; z = add-fits binary32 _ _ }
+  vadd_fits = record { x = add-fits binary32 _ _; y = add-fits binary32 _ _; z = add-fits binary32 _ _ }
 
-  vsub-fits : Fit3 (vsub a b)
+  vsub_fits : Fit3 (vsub a b)
   unfolding vsub
-  vsub-fits = record { x = sub-fits binary32 _ _; y = sub-fits binary32 _ _; z = sub-fits binary32 _ _ }
+  vsub_fits = record { x = sub-fits binary32 _ _; y = sub-fits binary32 _ _; z = sub-fits binary32 _ _ }
 
   abbrev Fit : Float → Type 0
   Fit x = T (fits binary32 x)
 
-  vmin-fits : Fit3 a → Fit3 b → Fit3 (vmin a b)
+  vmin_fits : Fit3 a → Fit3 b → Fit3 (vmin a b)
   unfolding vmin
-  vmin-fits h k =
+  vmin_fits h k =
       record {
         x = fmin_either Fit a.x b.x h.x k.x;
         y = fmin_either Fit a.y b.y h.y k.y;
         z = fmin_either Fit a.z b.z h.z k.z;
       }
 
-  vmax-fits : Fit3 a → Fit3 b → Fit3 (vmax a b)
+  vmax_fits : Fit3 a → Fit3 b → Fit3 (vmax a b)
   unfolding vmax
-  vmax-fits h k =
+  vmax_fits h k =
       record {
         x = fmax_either Fit a.x b.x h.x k.x;
         y = fmax_either Fit a.y b.y h.y k.y;
@@ -56,7 +56,7 @@ module _ (a b : Vec3) where
 -- ---- an object's box
 in_fits : (b : Bounds) (e : Float) → FitBox (box_in b e)
 unfolding widened
-in_fits (Within b) e = record { lo = vsub-fits b.lo (vsplat e); hi = vadd-fits b.hi (vsplat e) }
+in_fits (Within b) e = record { lo = vsub_fits b.lo (vsplat e); hi = vadd_fits b.hi (vsplat e) }
 in_fits Unbounded e =
     record { lo = splat_fits f0 (of_bits-fits binary32 0); hi = splat_fits f0 (of_bits-fits binary32 0) }
 
@@ -73,7 +73,7 @@ boxes_fit (o ∷ os) (suc i) l = boxes_fit os i (omega arith)
 merge_fits : (a b : Aabb) → FitBox a → FitBox b → FitBox (merge a b)
 unfolding merge
 merge_fits a b h k =
-    record { lo = vmin-fits a.lo b.lo h.lo k.lo; hi = vmax-fits a.hi b.hi h.hi k.hi }
+    record { lo = vmin_fits a.lo b.lo h.lo k.lo; hi = vmax_fits a.hi b.hi h.hi k.hi }
 
 from_fits
     : (a : Aabb) (bs : List Aabb) → FitBox a → ((i : ℕ) → i < length bs → FitBox (box_at bs i))

@@ -1,7 +1,7 @@
 -- An order table that holds n numbers in another order holds each once. By what a permutation keeps. Assumes nothing.
 use Rattle.std.proofs.Common.{◌≡◌, ℕ, ◌<◌, List, length, get_or, sym, ap, ◌∙◌, arith}
 use Rattle.words.specs.Lists.{list_from}
-use Rattle.words.proofs.Runs.{getD-from, length_from}
+use Rattle.words.proofs.Runs.{get_d_from, length_from}
 use Rattle.bvh_rules.specs.Rules.{Once, place}
 use Rattle.bvh_split.proofs.Perms.{Perm, Each, Apart, perm_length, perm_all, perm_apart}
 use Rattle.bvh_build.proofs.Stands.{Reads}
@@ -10,7 +10,7 @@ abbrev pub numbers : ℕ → List ℕ
 numbers n = list_from place 0 n
 
 pub number_at : (n i : ℕ) → i < n → get_or (numbers n) i 0 ≡ i
-number_at n i h = omega (arith, getD-from place 0 n i 0 h)
+number_at n i h = omega (arith, get_d_from place 0 n i 0 h)
 
 numbers_below : (n : ℕ) → Each (λ o. o < n) (numbers n)
 numbers_below n i l =

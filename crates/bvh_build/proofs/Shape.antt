@@ -7,11 +7,11 @@ use Rattle.sdf.specs.declared.Aabb.{Aabb}
 use Rattle.bvh_rules.specs.Rules.{Tree, leaf, node, size, weight, depth}
 use Rattle.bvh_range.specs.Range.{span_of}
 use Rattle.bvh_split.proofs.Perms.{Perm, perm_length, perm_halves}
-use Rattle.bvh_split.proofs.Cuts.{cut-once}
+use Rattle.bvh_split.proofs.Cuts.{cut_once}
 use Rattle.bvh_build.specs.Build.{TreeOrder, leaf_of, joined, build_of}
 use Rattle.bvh_build.specs.Encode.{encode, low_of}
-use Rattle.bvh_build.proofs.Fuel.{stops_at, cut_at, left_part, right_part, left-some, right-some, parts-length}
-use Rattle.bvh_build.proofs.Fuel.{build-each}
+use Rattle.bvh_build.proofs.Fuel.{stops_at, cut_at, left_part, right_part, left_some, right_some, parts_length}
+use Rattle.bvh_build.proofs.Fuel.{build_each}
 
 -- every leaf has a count above 0
 abbrev pub Filled : Tree → Type 0
@@ -25,17 +25,17 @@ pub record Shape (os : List ℕ) (m : TreeOrder) : Type 0 where
   pub once : Perm os m.order
 
 module _ (bs : List Aabb) where
-  leaf-shape : (os : List ℕ) → Shape os (leaf_of bs os)
-  leaf-shape os = record { weighs = refl; sized = λ h. omega arith; filled = λ h. h; once = Permᴰ.refl os }
+  leaf_shape : (os : List ℕ) → Shape os (leaf_of bs os)
+  leaf_shape os = record { weighs = refl; sized = λ h. omega arith; filled = λ h. h; once = Permᴰ.refl os }
 
-  node-shape
+  node_shape
       : (os : List ℕ) → stops_at bs os ≡ false → (l r : TreeOrder) → Shape (left_part bs os) l
       → Shape (right_part bs os) r
       → Shape os (joined (span_of bs os).hull l r)
-  node-shape os p l r a b =
-      let n = parts-length bs os p in
-      let x = left-some bs os p in
-      let y = right-some bs os p in
+  node_shape os p l r a b =
+      let n = parts_length bs os p in
+      let x = left_some bs os p in
+      let y = right_some bs os p in
       let u = a.sized x in
       let v = b.sized y in
       record {
@@ -43,15 +43,15 @@ module _ (bs : List Aabb) where
         sized = λ h. omega arith;
         filled = λ h. (a.filled x, b.filled y);
         once =
-            Permᴰ.trans (cut-once bs os (span_of bs os).centres)
+            Permᴰ.trans (cut_once bs os (span_of bs os).centres)
             (perm_halves (cut_at bs os).mid (cut_at bs os).order a.once b.once);
       }
 
-  pub build-shape : (os : List ℕ) → Shape os (build_of bs os)
-  build-shape os = build-each bs Shape leaf-shape node-shape os
+  pub build_shape : (os : List ℕ) → Shape os (build_of bs os)
+  build_shape os = build_each bs Shape leaf_shape node_shape os
 
-  pub order-length : (os : List ℕ) → length (build_of bs os).order ≡ length os
-  order-length os = perm_length (build-shape os).once
+  pub order_length : (os : List ℕ) → length (build_of bs os).order ≡ length os
+  order_length os = perm_length (build_shape os).once
 
 -- ---- the words of a tree
 pub encode_length : (t : Tree) (at s : ℕ) → length (encode t at s) ≡ 9 * size t

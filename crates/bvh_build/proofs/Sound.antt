@@ -19,7 +19,7 @@ use Rattle.words.specs.Lists.{All}
 use Rattle.plan.specs.Plan.{Piece, Plan}
 use Rattle.float_order.specs.Inside.Order.{Bounded, Exactly}
 use Rattle.float_order.proofs.Rounding.{zero_is}
-use Rattle.float_order.proofs.Bounds.{within_more, within_of, within_of_plus, within_le, within_ge, add-within}
+use Rattle.float_order.proofs.Bounds.{within_more, within_of, within_of_plus, within_le, within_ge, add_within}
 use Rattle.float_order.proofs.Bounds.{sub_within, fmax_within, fmin_within, held_whole}
 use Rattle.plan_test.specs.Exact.{PieceOk, SoundObjects}
 use Rattle.bvh_boxes.specs.Boxes.{finite_box, object_box, boxes_of, box_at}
@@ -82,18 +82,18 @@ unfolding vsplat
 splat_within b x w = record { x = w; y = w; z = w }
 
 module _ (a b c : ℕ) (held : Exactly binary32 c) (h : a + b ≤ c) (u v : Vec3) (p : Within3 a u) (q : Within3 b v) where
-  vadd-within : Within3 c (vadd u v)
+  vadd_within : Within3 c (vadd u v)
   unfolding vadd
-  vadd-within =
+  vadd_within =
       record {
-        x = add-within binary32 a b c held u.x v.x p.x q.x h;
-        y = add-within binary32 a b c held u.y v.y p.y q.y h;
-        z = add-within binary32 a b c held u.z v.z p.z q.z h;
+        x = add_within binary32 a b c held u.x v.x p.x q.x h;
+        y = add_within binary32 a b c held u.y v.y p.y q.y h;
+        z = add_within binary32 a b c held u.z v.z p.z q.z h;
       }
 
-  vsub-within : Within3 c (vsub u v)
+  vsub_within : Within3 c (vsub u v)
   unfolding vsub
-  vsub-within =
+  vsub_within =
       record {
         x = sub_within binary32 a b c held u.x v.x p.x q.x h;
         y = sub_within binary32 a b c held u.y v.y p.y q.y h;
@@ -101,18 +101,18 @@ module _ (a b c : ℕ) (held : Exactly binary32 c) (h : a + b ≤ c) (u v : Vec3
       }
 
 module _ (b : ℕ) (u v : Vec3) (p : Within3 b u) (q : Within3 b v) where
-  vmin-within : Within3 b (vmin u v)
+  vmin_within : Within3 b (vmin u v)
   unfolding vmin
-  vmin-within =
+  vmin_within =
       record {
         x = fmin_within b u.x v.x p.x q.x;
         y = fmin_within b u.y v.y p.y q.y;
         z = fmin_within b u.z v.z p.z q.z;
       }
 
-  vmax-within : Within3 b (vmax u v)
+  vmax_within : Within3 b (vmax u v)
   unfolding vmax
-  vmax-within =
+  vmax_within =
       record {
         x = fmax_within b u.x v.x p.x q.x;
         y = fmax_within b u.y v.y p.y q.y;
@@ -136,16 +136,16 @@ out
     → BoxWithin 30000 (record { lo = vsub lo e; hi = vadd hi e })
 out lo hi e p q r =
     record {
-      lo = vsub-within 10000 20000 30000 held_30000 (lit≤ tt) lo e p r;
-      hi = vadd-within 10000 20000 30000 held_30000 (lit≤ tt) hi e q r;
+      lo = vsub_within 10000 20000 30000 held_30000 (lit≤ tt) lo e p r;
+      hi = vadd_within 10000 20000 30000 held_30000 (lit≤ tt) hi e q r;
     }
 
 widened_within : (b : Aabb) (e : Float) → BoxWithin 30000 b → Bounded 10000 e → BoxWithin 40000 (widened b e)
 unfolding widened
 widened_within b e p q =
     record {
-      lo = vsub-within 30000 10000 40000 held_40000 (lit≤ tt) b.lo (vsplat e) p.lo (splat_within 10000 e q);
-      hi = vadd-within 30000 10000 40000 held_40000 (lit≤ tt) b.hi (vsplat e) p.hi (splat_within 10000 e q);
+      lo = vsub_within 30000 10000 40000 held_40000 (lit≤ tt) b.lo (vsplat e) p.lo (splat_within 10000 e q);
+      hi = vadd_within 30000 10000 40000 held_40000 (lit≤ tt) b.hi (vsplat e) p.hi (splat_within 10000 e q);
     }
 
 spread_within : (c e : Vec3) → Within3 10000 c → Within3 20000 e → BoxWithin 30000 (spread c e)
@@ -157,14 +157,14 @@ around_within
     → BoxWithin 30000 (around a b r)
 unfolding around
 around_within a b r p q w =
-    out (vmin a b) (vmax a b) (vsplat r) (vmin-within 10000 a b p q) (vmax-within 10000 a b p q)
+    out (vmin a b) (vmax a b) (vsplat r) (vmin_within 10000 a b p q) (vmax_within 10000 a b p q)
     (more3 10000 20000 (vsplat r) (lit≤ tt) (splat_within 10000 r w))
 
 torus_within
     : (major minor : Float) → Bounded 10000 major → Bounded 10000 minor
     → Within3 20000 (record { x = major ⊕ minor; y = minor; z = major ⊕ minor })
 torus_within major minor p q =
-    let s = add-within binary32 10000 10000 20000 (held_whole binary32 20000 (lit≤ tt)) major minor p q (lit≤ tt) in
+    let s = add_within binary32 10000 10000 20000 (held_whole binary32 20000 (lit≤ tt)) major minor p q (lit≤ tt) in
     record { x = s; y = within_more 10000 20000 minor (lit≤ tt) q; z = s }
 
 -- a plane's stand-in box too

@@ -7,12 +7,12 @@ use lib.Ieee.Bits.{of_bits-to_bits}
 use Rattle.vec.specs.declared.Vec3.{Vec3}
 use Rattle.sdf.specs.declared.Aabb.{Aabb}
 use Rattle.words.specs.Words.{float_at, floats_of}
-use Rattle.words.proofs.Runs.{getD-from}
+use Rattle.words.proofs.Runs.{get_d_from}
 use Rattle.bvh_boxes.proofs.Vectors.{Three}
 use Rattle.bvh_rules.specs.Nodes.{node_at}
 use Rattle.bvh_rules.specs.Rules.{Tree, leaf, node, size, weight, Stands}
 use Rattle.bvh_build.specs.Encode.{word_for, node_words, encode, laid}
-use Rattle.bvh_build.proofs.Laid.{laid-here}
+use Rattle.bvh_build.proofs.Laid.{laid_here}
 use Rattle.bvh_build.proofs.Shape.{Filled, encode_length}
 
 -- ---- the words ys stand in xs from place i on
@@ -20,7 +20,7 @@ abbrev pub Reads : List ℕ → ℕ → List ℕ → Type 0
 Reads xs i ys = (k : ℕ) → k < length ys → get_or xs (i + k) 0 ≡ get_or ys k 0
 
 pub reads_laid : (xs : List ℕ) (i : ℕ) (ys : List ℕ) → i + length ys ≤ length xs → Reads (laid xs i ys) i ys
-reads_laid xs i ys h k l = laid-here xs i ys k 0 l (omega arith)
+reads_laid xs i ys h k l = laid_here xs i ys k 0 l (omega arith)
 
 pub reads_left : (xs : List ℕ) (i : ℕ) (ys zs : List ℕ) → Reads xs i (ys ++ zs) → Reads xs i ys
 reads_left xs i ys zs r k l = r k (omega (arith, length-append ys zs)) ∙ get_or-append ys zs 0 k l
@@ -52,14 +52,14 @@ module _ (w : List ℕ) (n : ℕ) where
   unfolding float_at
   corner i x h g e =
       let z : 0 + i ≡ i = omega arith in
-      getD-from (float_at w) 0 n i nan h ∙ ap (float_at w) z ∙ ap (of_bits binary32) e ∙ of_bits-to_bits binary32 x g
+      get_d_from (float_at w) 0 n i nan h ∙ ap (float_at w) z ∙ ap (of_bits binary32) e ∙ of_bits-to_bits binary32 x g
 
-  node-reads
+  node_reads
       : (at : ℕ) (b : Aabb) (start count right : ℕ) → 9 * at + 9 ≤ n → FitBox b
       → Reads w (9 * at) (node_words b start count right)
       → node_at w (floats_of w n) at ≡ record { hull = b; start = start; count = count; right = right }
   unfolding node_at
-  node-reads at b start count right h g r =
+  node_reads at b start count right h g r =
       let f0 : get_or w (9 * at) 0 ≡ word_for b.lo.x = ap (λ (k : ℕ). get_or w k 0) (sym (add-zero (9 * at)))
       ∙ r 0 (omega arith) in
       rw (
@@ -80,14 +80,14 @@ module _ (w : List ℕ) (n : ℕ) where
       → Reads w (9 * at) (encode t at s)
       → Stands w (floats_of w n) at s t
   unfolding encode
-  stands_here (leaf b c) at s h p g r = (node-reads at b s c 0 h g r, p)
+  stands_here (leaf b c) at s h p g r = (node_reads at b s c 0 h g r, p)
   stands_here (node b l r) at s h p g q =
       let k = at + 1 + size l in
       let ls = encode l (at + 1) s in
       let rs = encode r k (s + weight l) in
       let top = node_words b 0 0 k in
       let q' = reads_right w (9 * at) top (ls ++ rs) (9 * (at + 1)) (omega arith) q in (
-        node-reads at b 0 0 k (omega arith) g.0 (reads_left w (9 * at) top (ls ++ rs) q),
+        node_reads at b 0 0 k (omega arith) g.0 (reads_left w (9 * at) top (ls ++ rs) q),
         stands_here l (at + 1) s (omega arith) p.0 g.1 (reads_left w (9 * (at + 1)) ls rs q'),
         stands_here r k (s + weight l) (omega arith) p.1 g.2
             (reads_right w (9 * (at + 1)) ls rs (9 * k) (omega (arith, encode_length l (at + 1) s)) q'),

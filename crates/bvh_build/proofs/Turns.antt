@@ -7,7 +7,7 @@ use Rattle.bvh_boxes.specs.Boxes.{box_at, no_box}
 use Rattle.bvh_range.specs.Inside.Table.{table_boxes, put_box}
 use Rattle.bvh_range.proofs.Table.{boxes_put, length_put_box}
 use Rattle.bvh_build.specs.Encode.{word_for, node_words, laid}
-use Rattle.bvh_build.proofs.Laid.{laid-snoc}
+use Rattle.bvh_build.proofs.Laid.{laid_snoc}
 
 pub node_put : (nw : List ℕ) (i : ℕ) (b : Aabb) (start count right x y z x' y' z' : ℕ)
     → x ≡ word_for b.lo.x → y ≡ word_for b.lo.y → z ≡ word_for b.lo.z → x' ≡ word_for
@@ -31,23 +31,23 @@ module _ (bs : List Aabb) (t₀ : List Float) where
   abbrev pub Loaded : List Float → ℕ → Type 0
   Loaded t o = (length t ≡ length t₀) × (table_boxes t ≡ laid (table_boxes t₀) 0 (take o bs))
 
-  pub load-none : Loaded t₀ 0
+  pub load_none : Loaded t₀ 0
   unfolding laid
-  load-none = (refl, refl)
+  load_none = (refl, refl)
 
-  pub load-more
+  pub load_more
       : (t t' : List Float) (o : ℕ) (b : Aabb) → o < length bs → b ≡ box_at bs o → t' ≡ put_box t o b
       → Loaded t o → Loaded t' (o + 1)
-  load-more t t' o b l e p h =
+  load_more t t' o b l e p h =
       let n : 0 + length (take o bs) ≡ o = omega (arith, length-take-le o bs (omega arith)) in
       let r : set (laid (table_boxes t₀) 0 (take o bs)) o (box_at bs o)
       ≡ laid (table_boxes t₀) 0 (take o bs ++ (box_at bs o ∷ []))
       = ap (λ (k : ℕ). set (laid (table_boxes t₀) 0 (take o bs)) k (box_at bs o)) (sym n)
-      ∙ sym (laid-snoc (table_boxes t₀) 0 (take o bs) (box_at bs o)) in (
+      ∙ sym (laid_snoc (table_boxes t₀) 0 (take o bs) (box_at bs o)) in (
         ap length p ∙ length_put_box t o b ∙ h.0,
         rw (p, boxes_put, h.1, e, add-one, take-suc bs o no_box l) r,
       )
 
-  pub load-all
+  pub load_all
       : (t : List Float) (o : ℕ) → length bs ≤ o → Loaded t o → table_boxes t ≡ laid (table_boxes t₀) 0 bs
-  load-all t o e h = h.1 ∙ ap (laid (table_boxes t₀) 0) (take_all o bs e)
+  load_all t o e h = h.1 ∙ ap (laid (table_boxes t₀) 0) (take_all o bs e)

@@ -6,7 +6,7 @@ use lib.Ieee.{Float, nan}
 use Rattle.vec.specs.Vec.{vsplat}
 use Rattle.sdf.specs.declared.Aabb.{Aabb}
 use Rattle.words.specs.Lists.{list_from}
-use Rattle.words.proofs.Runs.{getD-from, length_from, from-same}
+use Rattle.words.proofs.Runs.{get_d_from, length_from, from_same}
 use Rattle.plan.specs.Sections.{objects}
 use Rattle.plan.specs.Plan.{Plan, count_of, plan_of}
 use Rattle.bvh_boxes.specs.Boxes.{boxes_of, box_at, no_box}
@@ -22,13 +22,13 @@ use Rattle.bvh_build.specs.Encode.{laid}
 use Rattle.bvh_build.specs.Inside.Narrow.{low32}
 use Rattle.bvh_build.specs.Tables.{built_of, size_of, low_enough, nodes_with, order_with}
 use Rattle.bvh_build.specs.Inside.Lays.{Lays, Room, Builds, BuildsFew, zero_box}
-use Rattle.bvh_build.proofs.Laid.{laid-here, laid-front}
-use Rattle.bvh_build.proofs.Shape.{order-length}
-use Rattle.bvh_build.proofs.Same.{Alike, build-same}
+use Rattle.bvh_build.proofs.Laid.{laid_here, laid_front}
+use Rattle.bvh_build.proofs.Shape.{order_length}
+use Rattle.bvh_build.proofs.Same.{Alike, build_same}
 
 -- ---- the numbers of n objects
 numbers_same : (n : ℕ) → n ≤ 256 → list_from low32 0 n ≡ list_from place 0 n
-numbers_same n h = from-same low32 place 0 0 n (λ k l. rw (lt-ltb (0 + k) 4294967296 (omega arith)))
+numbers_same n h = from_same low32 place 0 0 n (λ k l. rw (lt-ltb (0 + k) 4294967296 (omega arith)))
 
 -- ---- a table with boxes laid over it
 table_alike
@@ -37,8 +37,8 @@ table_alike
 table_alike bs zs n e h i l =
     let k : i < n = omega (arith, length_from place 0 n) in
     let z : 0 + i ≡ i = omega arith in
-    rw (getD-from place 0 n i 0 k)
-    (laid-here zs 0 bs i no_box (omega arith) (omega arith) ∙ ap (λ (j : ℕ). box_at bs j) (sym z))
+    rw (get_d_from place 0 n i 0 k)
+    (laid_here zs 0 bs i no_box (omega arith) (omega arith) ∙ ap (λ (j : ℕ). box_at bs j) (sym z))
 
 pub lays_plan
     : (a : Plan) (zs bs : List Aabb) (n : ℕ) (os nw nw' os' : List ℕ) (r : Built)
@@ -55,7 +55,7 @@ lays_plan a zs bs n os nw nw' os' r eb eo L ez en pos h =
     let k : length os ≡ c = ap length e ∙ length_from place 0 c in
     let b : build_of bs os ≡ build_of (boxes_of a) (list_from place 0 c)
     = ap (λ (x : List Aabb). build_of x os) eb ∙ ap (build_of (laid zs 0 (boxes_of a))) e
-    ∙ build-same (laid zs 0 (boxes_of a)) (boxes_of a) (list_from place 0 c)
+    ∙ build_same (laid zs 0 (boxes_of a)) (boxes_of a) (list_from place 0 c)
     (table_alike (boxes_of a) zs c (boxes_length a) (omega arith)) in
     subst (λ (x : TreeOrder). Lays x nw 0 0 64 r nw' os') b
     (L (record { some = omega arith; nodes = omega arith; places = omega arith }))
@@ -99,21 +99,21 @@ builds_some a nw ow nw' os' n r L p pos h =
     let m = build_of (boxes_of a) (list_from place 0 (length a.objects)) in
     let e = ne_eqb (length a.objects) 0 (λ q. omega arith) in
     let k : length m.order ≡ n
-    = order-length (boxes_of a) (list_from place 0 (length a.objects)) ∙ length_from place 0 (length a.objects)
+    = order_length (boxes_of a) (list_from place 0 (length a.objects)) ∙ length_from place 0 (length a.objects)
     ∙ sym p in
     record {
       next_is = rw e (omega (arith, L.next_is));
       low_is = rw e L.low_is;
       nodes_are = rw e L.nodes_are;
       order_is =
-          rw (e, L.order_is) (sym (laid-front ow m.order (omega arith) ∙ ap
+          rw (e, L.order_is) (sym (laid_front ow m.order (omega arith) ∙ ap
           (λ (j : ℕ). m.order ++ drop j ow) k));
     }
 
 -- how many objects, as the code counts them
 pub objects_count
     : (w : List ℕ) (f : List Float) (n : ℕ) → n ≡ count_of objects w → n ≡ length (plan_of w f).objects
-objects_count w f n e = e ∙ sym (lists.box-count w f) ∙ boxes_length (plan_of w f)
+objects_count w f n e = e ∙ sym (lists.box_count w f) ∙ boxes_length (plan_of w f)
 
 -- what a count of 0, one above 256 and one between them leave
 pub none_built

@@ -38,30 +38,30 @@ span_hull bs os = hull_from_lem _ (members bs os)
 
 -- ---- over the objects of a range
 module _ (bs : List Aabb) (os : List ℕ) (i : ℕ) where
-  pub members-more : i < length os → members bs (drop i os) ≡ box_at bs (get_or os i 0) ∷ members bs (drop (i + 1) os)
+  pub members_more : i < length os → members bs (drop i os) ≡ box_at bs (get_or os i 0) ∷ members bs (drop (i + 1) os)
   unfolding members
-  members-more h = rw (drop-cons os i 0 h, add-one)
+  members_more h = rw (drop-cons os i 0 h, add-one)
 
-  pub members-none : length os ≤ i → members bs (drop i os) ≡ []
+  pub members_none : length os ≤ i → members bs (drop i os) ≡ []
   unfolding members
-  members-none h = rw (drop_of_length-le os h)
+  members_none h = rw (drop_of_length-le os h)
 
   span_more : (s : Span) → i < length os
       → span_from s (members bs (drop i os)) ≡ span_from (grow s (box_at bs (get_or os i 0)))
       (members bs (drop (i + 1) os))
   unfolding span_from
-  span_more s h = rw (members-more h)
+  span_more s h = rw (members_more h)
 
   -- by a hull and centres that are held apart
-  pub span-turn
+  pub span_turn
       : (h h' c c' m p : Aabb) (s : Span) → i < length os
       → m ≡ box_at bs (get_or os i 0) → h' ≡ merge h m → p ≡ point m → c' ≡ merge c p
       → span_from (record { hull = h; centres = c }) (members bs (drop i os)) ≡ s
       → span_from (record { hull = h'; centres = c' }) (members bs (drop (i + 1) os)) ≡ s
   unfolding grow
-  span-turn h h' c c' m p s l e₁ e₂ e₃ e₄ v =
+  span_turn h h' c c' m p s l e₁ e₂ e₃ e₄ v =
       rw (e₂, e₄, e₃, e₁) (sym (span_more (record { hull = h; centres = c }) l) ∙ v)
 
   pub span_none : (s : Span) → length os ≤ i → span_from s (members bs (drop i os)) ≡ s
   unfolding span_from
-  span_none s h = rw (members-none h)
+  span_none s h = rw (members_none h)

@@ -14,7 +14,7 @@ use lib.Ieee.{Float, nan}
 use borrow.Author.Tests.{lt-ltb, le-ltb}
 use Rattle.sdf.specs.declared.Aabb.{Aabb}
 use Rattle.words.proofs.Laws.{less_or}
-use Rattle.words.proofs.Runs.{getD-from, get_d_past, length_from}
+use Rattle.words.proofs.Runs.{get_d_from, get_d_past, length_from}
 use Rattle.bvh_boxes.specs.Boxes.{box_at, no_box}
 use Rattle.bvh_range.specs.declared.Row.{Row}
 use Rattle.bvh_range.specs.Inside.Table.{table_box, table_boxes, box_of_row, with_row, row_for, put_box}
@@ -32,7 +32,7 @@ pub box_here : (f : List Float) (k : ℕ) → k < length f / 8 → box_at (table
 unfolding table_boxes
 box_here f k h =
     let z : 0 + k ≡ k = omega arith in
-    getD-from (table_box f) 0 (length f / 8) k no_box h ∙ ap (table_box f) z
+    get_d_from (table_box f) 0 (length f / 8) k no_box h ∙ ap (table_box f) z
 
 pub box_past : (f : List Float) (k : ℕ) → length f / 8 ≤ k → box_at (table_boxes f) k ≡ no_box
 unfolding table_boxes
@@ -83,8 +83,8 @@ module _ (f : List Float) (p : ℕ) (r : Row) (fit : p + 8 ≤ length f) where
       ∙ get_or-append-add (eight r) (drop (p + 8) f) j nan
       ∙ get_or-drop (p + 8) f j nan
 
-  length-with : length (with f p r) ≡ length f
-  length-with = simp (length-append, length-take, length-drop) (omega arith)
+  length_with : length (with f p r) ≡ length f
+  length_with = simp (length-append, length-take, length-drop) (omega arith)
 
   outer : (j : ℕ) → (j < p) ⊎ (p + 8 ≤ j) → get_or (with f p r) j nan ≡ get_or f j nan
   outer j h =
@@ -96,7 +96,7 @@ module _ (f : List Float) (p : ℕ) (r : Row) (fit : p + 8 ≤ length f) where
 
 pub length_put_row : (f : List Float) (k : ℕ) (r : Row) → length (with_row f k r) ≡ length f
 length_put_row f k r =
-    ⊎_elim (λ h. rw (put_in f k r h) (length-with f (8 * k) r (omega arith))) (λ h. rw (put_out f k r h))
+    ⊎_elim (λ h. rw (put_in f k r h) (length_with f (8 * k) r (omega arith))) (λ h. rw (put_out f k r h))
     (less_or k (length f / 8))
 
 -- ---- a box put is read back, and no other changes
@@ -133,7 +133,7 @@ rows_put f k r =
     inside h =
         let fit : 8 * k + 8 ≤ length f = omega arith in
         let w = with f (8 * k) r in
-        let l : length w / 8 ≡ length f / 8 = ap (λ (n : ℕ). n / 8) (length-with f (8 * k) r fit) in
+        let l : length w / 8 ≡ length f / 8 = ap (λ (n : ℕ). n / 8) (length_with f (8 * k) r fit) in
         ap table_boxes (put_in f k r h)
         ∙ ext_get_or no_box (table_boxes w) (set (table_boxes f) k (box_of_row r))
         (box_count w ∙ l ∙ sym (box_count f) ∙ sym (length-set (table_boxes f) k (box_of_row r)))

@@ -20,9 +20,9 @@ use Rattle.bvh_rules.specs.declared.Sub.TheVariants.{Bad, Good}
 use Rattle.bvh_rules.specs.Nodes.{node_at, inner_node, leaf_node}
 use Rattle.bvh_rules.specs.Rules.{Tree, leaf, node, hull, size, weight, depth, Stands, Boxed}
 use Rattle.bvh_rules.specs.Inside.Steps.{kind_of, then, on_kind, check_of}
-use Rattle.bvh_rules.proofs.Level.{kind-leaf, kind-inner}
-use Rattle.bvh_rules.proofs.Trees.{stands-below}
-use Rattle.bvh_rules.proofs.Tests.{hull_to, hull_from_lem, leaf-from, kind-leaf-to, kind-inner-to}
+use Rattle.bvh_rules.proofs.Level.{kind_leaf, kind_inner}
+use Rattle.bvh_rules.proofs.Trees.{stands_below}
+use Rattle.bvh_rules.proofs.Tests.{hull_to, hull_from_lem, leaf_from, kind_leaf_to, kind_inner_to}
 
 abbrev tag : Sub → ℕ
 tag Bad = 0
@@ -54,7 +54,7 @@ module _ (w : List ℕ) (f : List Float) (o : List ℕ) (bs : List Aabb) where
         : (l r x y : ℕ) → kind_of o bs v outer at s ≡ Inner l r → Found level v.hull l s x y → r ≡ x
         → Found level v.hull x y a b → Found (suc level) outer at s a b
     join l r x y k p e q =
-        let i = kind-inner-to o bs v outer at s l r k in
+        let i = kind_inner_to o bs v outer at s l r k in
         let box = hull_to v.hull outer at i.good in
         let ex : x ≡ at + 1 + size p.tree = omega (arith, p.after, i.next) in
         record {
@@ -80,12 +80,12 @@ module _ (w : List ℕ) (f : List Float) (o : List ℕ) (bs : List Aabb) where
           few = q.few;
         }
 
-    by-test
+    by_test
         : (l r x y : ℕ) → kind_of o bs v outer at s ≡ Inner l r → Found level v.hull l s x y → (t : Bool)
         → eqb r x ≡ t → cond t (check_of level w f o bs v.hull x y) Bad ≡ Good a b → Found
         (suc level) outer at s a b
-    by-test l r x y k p true e g = join l r x y k p (eqb-true r x e) (ih v.hull x y a b g)
-    by-test l r x y k p false e g = absurd (bad_good a b g)
+    by_test l r x y k p true e g = join l r x y k p (eqb-true r x e) (ih v.hull x y a b g)
+    by_test l r x y k p false e g = absurd (bad_good a b g)
 
     by_left
         : (l r : ℕ) → kind_of o bs v outer at s ≡ Inner l r → (u : Sub)
@@ -93,7 +93,7 @@ module _ (w : List ℕ) (f : List Float) (o : List ℕ) (bs : List Aabb) where
         → then u r (λ next end. check_of level w f o bs v.hull next end) ≡ Good a b → Found
         (suc level) outer at s a b
     by_left l r k Bad e g = absurd (bad_good a b g)
-    by_left l r k (Good x y) e g = by-test l r x y k (ih v.hull l s x y e) (eqb r x) refl g
+    by_left l r k (Good x y) e g = by_test l r x y k (ih v.hull l s x y e) (eqb r x) refl g
 
     by_kind
         : (k : Kind) → kind_of o bs v outer at s ≡ k
@@ -102,7 +102,7 @@ module _ (w : List ℕ) (f : List Float) (o : List ℕ) (bs : List Aabb) where
         → Found (suc level) outer at s a b
     by_kind Wrong k g = absurd (bad_good a b g)
     by_kind (Leaf x y) k g =
-        let i = kind-leaf-to o bs v outer at s x y k in
+        let i = kind_leaf_to o bs v outer at s x y k in
         let box = hull_to v.hull outer at i.good in
         let g' : Good x y ≡ Good a b = g in
         let ea : x ≡ a = cc in
@@ -119,43 +119,43 @@ module _ (w : List ℕ) (f : List Float) (o : List ℕ) (bs : List Aabb) where
         }
     by_kind (Inner l r) k g = by_left l r k (check_of level w f o bs v.hull l s) refl g
 
-  pub sub-to
+  pub sub_to
       : (level : ℕ) (outer : Aabb) (at s a b : ℕ) → check_of level w f o bs outer at s ≡ Good a b
       → Found level outer at s a b
   unfolding check_of
-  sub-to zero outer at s a b e = absurd (bad_good a b e)
-  sub-to (suc level) outer at s a b e =
-      by_kind level outer at s a b (λ outer at s a b e. sub-to level outer at s a b e)
+  sub_to zero outer at s a b e = absurd (bad_good a b e)
+  sub_to (suc level) outer at s a b e =
+      by_kind level outer at s a b (λ outer at s a b e. sub_to level outer at s a b e)
       (kind_of o bs (node_at w f at) outer at s) refl e
 
   -- ---- where a tree stands the place is good
   module _ (lw : length w ≡ 4599) where
-    sub-tree
+    sub_tree
         : (level : ℕ) (outer : Aabb) (at s : ℕ) (t : Tree) → Stands w f at s t → depth t < level
         → Boxed o bs s t
         → T (inside (hull t) outer) → s + weight t ≤ length bs
         → check_of level w f o bs outer at s ≡ Good (at + size t) (s + weight t)
     unfolding check_of
-    sub-tree zero outer at s t h d x k g = absurd (omega arith)
-    sub-tree (suc level) outer at s (leaf b c) h d x k g =
-        let good = hull_from_lem b outer at (stands-below w f lw at s (leaf b c) h) x.0 k in
+    sub_tree zero outer at s t h d x k g = absurd (omega arith)
+    sub_tree (suc level) outer at s (leaf b c) h d x k g =
+        let good = hull_from_lem b outer at (stands_below w f lw at s (leaf b c) h) x.0 k in
         let v : Node = leaf_node b s c in
         let ne : c ≡ 0 → ⊥ = λ e. absurd (omega (arith, h.1)) in
-        let l = leaf-from o bs v s (record { right = refl; start = refl; few = g; held = x.1 }) in
-        rw (h.0, sym (kind-leaf o bs v outer at s good ne l))
-    sub-tree (suc level) outer at s (node b l r) h d x k g =
-        let good = hull_from_lem b outer at (stands-below w f lw at s (node b l r) h) x.0 k in
+        let l = leaf_from o bs v s (record { right = refl; start = refl; few = g; held = x.1 }) in
+        rw (h.0, sym (kind_leaf o bs v outer at s good ne l))
+    sub_tree (suc level) outer at s (node b l r) h d x k g =
+        let good = hull_from_lem b outer at (stands_below w f lw at s (node b l r) h) x.0 k in
         let m : ℕ = at + 1 + size l in
-        let p = sub-tree level b (at + 1) s l h.1 (omega arith) x.2.0 x.1.0 (omega arith) in
-        let q = sub-tree level b m (s + weight l) r h.2 (omega arith) x.2.1 x.1.1 (omega arith) in
-        rw (h.0, sym (kind-inner o bs (inner_node b m) outer at s good refl refl), p, eq-eqb m m refl)
+        let p = sub_tree level b (at + 1) s l h.1 (omega arith) x.2.0 x.1.0 (omega arith) in
+        let q = sub_tree level b m (s + weight l) r h.2 (omega arith) x.2.1 x.1.1 (omega arith) in
+        rw (h.0, sym (kind_inner o bs (inner_node b m) outer at s good refl refl), p, eq-eqb m m refl)
         (q ∙ ap₂ Good (omega arith) (omega arith))
 
-    pub sub-exact
+    pub sub_exact
         : (level : ℕ) (outer : Aabb) (at s a b : ℕ)
         → (check_of level w f o bs outer at s ≡ Good a b) ↔ Found level outer at s a b
-    sub-exact level outer at s a b = (
-      sub-to level outer at s a b,
-      λ p. sub-tree level outer at s p.tree p.stands p.low p.boxed p.within
+    sub_exact level outer at s a b = (
+      sub_to level outer at s a b,
+      λ p. sub_tree level outer at s p.tree p.stands p.low p.boxed p.within
           (omega (arith, p.last, p.few)) ∙ ap₂ Good (sym p.after) (sym p.last),
     )

@@ -40,96 +40,96 @@ words_start v n start e =
 
 module _ (o : List ℕ) (bs : List Aabb) (v : Node) (start : ℕ) where
   module _ (n : ℕ) (e : n ≡ length bs) where
-    pub leaf-good
+    pub leaf_good
         : leaf_words v n start ≡ true → leaf_ok o bs v start ≡ holds_all o bs v.hull v.start v.count
     unfolding leaf_ok
-    leaf-good g = rw (sym e, g, words_start v n start g)
+    leaf_good g = rw (sym e, g, words_start v n start g)
 
-    pub leaf-bad : leaf_words v n start ≡ false → leaf_ok o bs v start ≡ false
+    pub leaf_bad : leaf_words v n start ≡ false → leaf_ok o bs v start ≡ false
     unfolding leaf_ok
-    leaf-bad g = rw (sym e, g)
+    leaf_bad g = rw (sym e, g)
 
-  pub leaf-start : leaf_ok o bs v start ≡ true → v.start ≡ start
+  pub leaf_start : leaf_ok o bs v start ≡ true → v.start ≡ start
   unfolding leaf_ok
-  leaf-start e =
+  leaf_start e =
       words_start v (length bs) start
       (cond_true (leaf_words v (length bs) start) (holds_all o bs v.hull start v.count) e).0
 
 module _ (o : List ℕ) (bs : List Aabb) (v : Node) (outer : Aabb) (at start : ℕ) where
-  pub kind-out : hull_ok v.hull outer at ≡ false → Wrong ≡ kind_of o bs v outer at start
+  pub kind_out : hull_ok v.hull outer at ≡ false → Wrong ≡ kind_of o bs v outer at start
   unfolding kind_of
-  kind-out h = rw h
+  kind_out h = rw h
 
   module _ (h : hull_ok v.hull outer at ≡ true) where
-    pub kind-inner : v.count ≡ 0 → v.start ≡ 0 → Inner (at + 1) v.right ≡ kind_of o bs v outer at start
+    pub kind_inner : v.count ≡ 0 → v.start ≡ 0 → Inner (at + 1) v.right ≡ kind_of o bs v outer at start
     unfolding kind_of
-    kind-inner c s = rw (h, eq-eqb v.count 0 c, eq-eqb v.start 0 s)
+    kind_inner c s = rw (h, eq-eqb v.count 0 c, eq-eqb v.start 0 s)
 
-    pub kind-started : v.count ≡ 0 → (v.start ≡ 0 → ⊥) → Wrong ≡ kind_of o bs v outer at start
+    pub kind_started : v.count ≡ 0 → (v.start ≡ 0 → ⊥) → Wrong ≡ kind_of o bs v outer at start
     unfolding kind_of
-    kind-started c s = rw (h, eq-eqb v.count 0 c, ne_eqb v.start 0 s)
+    kind_started c s = rw (h, eq-eqb v.count 0 c, ne_eqb v.start 0 s)
 
-    pub kind-leaf
+    pub kind_leaf
         : (v.count ≡ 0 → ⊥) → leaf_ok o bs v start ≡ true
         → Leaf (at + 1) (start + v.count) ≡ kind_of o bs v outer at start
     unfolding kind_of
-    kind-leaf c e = rw (h, ne_eqb v.count 0 c, e)
+    kind_leaf c e = rw (h, ne_eqb v.count 0 c, e)
 
-    pub kind-no-leaf
+    pub kind_no_leaf
         : (v.count ≡ 0 → ⊥) → leaf_ok o bs v start ≡ false → Wrong ≡ kind_of o bs v outer at start
     unfolding kind_of
-    kind-no-leaf c e = rw (h, ne_eqb v.count 0 c, e)
+    kind_no_leaf c e = rw (h, ne_eqb v.count 0 c, e)
 
 module _ (w : List ℕ) (f : List Float) (o : List ℕ) (bs : List Aabb) (outer : Aabb) (at start : ℕ) where
-  pub check-none : (level : ℕ) → level ≡ 0 → Bad ≡ check_of level w f o bs outer at start
+  pub check_none : (level : ℕ) → level ≡ 0 → Bad ≡ check_of level w f o bs outer at start
   unfolding check_of
-  check-none level e = rw e
+  check_none level e = rw e
 
   module _ (v : Node) (ev : v ≡ node_at w f at) (k : Kind) (ek : k ≡ kind_of o bs v outer at start) where
     -- the parts are in v's box
-    check-step
+    check_step
         : (level : ℕ) → 0 < level
         → check_of level w f o bs outer at start ≡ on_kind k
         (λ left right. then (check_of (level - 1) w f o bs v.hull left start) right
         (λ next end. check_of (level - 1) w f o bs v.hull next end))
     unfolding check_of
-    check-step zero h = absurd (omega arith)
-    check-step (suc level) h = rw (ek, ev, sub-one)
+    check_step zero h = absurd (omega arith)
+    check_step (suc level) h = rw (ek, ev, sub-one)
 
     module _ (level : ℕ) (h : 0 < level) where
-      pub check-wrong : k ≡ Wrong → Bad ≡ check_of level w f o bs outer at start
-      check-wrong e = rw (check-step level h, e)
+      pub check_wrong : k ≡ Wrong → Bad ≡ check_of level w f o bs outer at start
+      check_wrong e = rw (check_step level h, e)
 
-      pub check-leaf : (a b : ℕ) → k ≡ Leaf a b → Good a b ≡ check_of level w f o bs outer at start
-      check-leaf a b e = rw (check-step level h, e)
+      pub check_leaf : (a b : ℕ) → k ≡ Leaf a b → Good a b ≡ check_of level w f o bs outer at start
+      check_leaf a b e = rw (check_step level h, e)
 
       module _ (l r : ℕ) (e : k ≡ Inner l r) (part : Sub)
           (ep : part ≡ check_of (level - 1) w f o bs v.hull l start) where
-        pub check-left-bad : part ≡ Bad → Bad ≡ check_of level w f o bs outer at start
-        check-left-bad g = rw (check-step level h, e, sym ep, g)
+        pub check_left_bad : part ≡ Bad → Bad ≡ check_of level w f o bs outer at start
+        check_left_bad g = rw (check_step level h, e, sym ep, g)
 
         module _ (a b : ℕ) (g : part ≡ Good a b) where
-          pub check-right
+          pub check_right
               : (x : Sub) → r ≡ a → x ≡ check_of (level - 1) w f o bs v.hull a b
               → x ≡ check_of level w f o bs outer at start
-          check-right x q k = rw (check-step level h, e, sym ep, g, eq-eqb r a q) k
+          check_right x q k = rw (check_step level h, e, sym ep, g, eq-eqb r a q) k
 
-          pub check-other : (r ≡ a → ⊥) → Bad ≡ check_of level w f o bs outer at start
-          check-other q = rw (check-step level h, e, sym ep, g, ne_eqb r a q)
+          pub check_other : (r ≡ a → ⊥) → Bad ≡ check_of level w f o bs outer at start
+          check_other q = rw (check_step level h, e, sym ep, g, ne_eqb r a q)
 
 -- ---- the whole tree
 module _ (levels : ℕ) (w : List ℕ) (f : List Float) (o : List ℕ) (bs : List Aabb) (n : ℕ) (e : n ≡ length bs) where
-  pub judge-none : n ≡ 0 → Good 0 0 ≡ judge_of levels w f o bs
+  pub judge_none : n ≡ 0 → Good 0 0 ≡ judge_of levels w f o bs
   unfolding judge_of
-  judge-none z = rw (sym e, eq-eqb n 0 z)
+  judge_none z = rw (sym e, eq-eqb n 0 z)
 
   module _ (z : n ≡ 0 → ⊥) where
-    pub judge-order : order_ok o n ≡ false → Bad ≡ judge_of levels w f o bs
+    pub judge_order : order_ok o n ≡ false → Bad ≡ judge_of levels w f o bs
     unfolding judge_of
-    judge-order g = rw (sym e, ne_eqb n 0 z, g)
+    judge_order g = rw (sym e, ne_eqb n 0 z, g)
 
-    pub judge-whole
+    pub judge_whole
         : order_ok o n ≡ true → (top : Node) → top ≡ node_at w f 0 → (s : Sub)
         → s ≡ check_of levels w f o bs top.hull 0 0 → whole_of s n ≡ judge_of levels w f o bs
     unfolding judge_of
-    judge-whole g top t s k = rw (sym e, ne_eqb n 0 z, g, sym t, k)
+    judge_whole g top t s k = rw (sym e, ne_eqb n 0 z, g, sym t, k)

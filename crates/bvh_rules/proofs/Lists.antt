@@ -14,7 +14,7 @@ use borrow.Author.Tests.{lt-ltb, le-ltb, le-leb, lt-leb}
 use Rattle.sdf.specs.declared.Aabb.{Aabb}
 use Rattle.words.specs.Lists.{list_from}
 use Rattle.words.proofs.Laws.{past_end}
-use Rattle.words.proofs.Runs.{from-snoc}
+use Rattle.words.proofs.Runs.{from_snoc}
 use Rattle.plan.specs.Sections.{nodes_first, order_first, table_words, nodes_words, order_places}
 use Rattle.plan.specs.Records.{word_of, float_of}
 use Rattle.bvh_boxes.specs.Boxes.{no_box}
@@ -29,13 +29,13 @@ every_snoc so [] b = refl
 every_snoc so (x ∷ bs) b = every_snoc (so && x) bs b
 
 module _ (o : List ℕ) (bs : List Aabb) (b : Aabb) (start : ℕ) where
-  pub holds-none : true ≡ holds_all o bs b start 0
+  pub holds_none : true ≡ holds_all o bs b start 0
   unfolding holds_all list_from every
-  holds-none = refl
+  holds_none = refl
 
   pub holds_more : (j : ℕ) → holds_all o bs b start (j + 1) ≡ holds_all o bs b start j && held_at o bs b (start + j)
   unfolding holds_all
-  holds_more j = rw (add-one, from-snoc (held_at o bs b) start j, every_snoc)
+  holds_more j = rw (add-one, from_snoc (held_at o bs b) start j, every_snoc)
 
 -- ---- a part of a table
 part_at
@@ -86,9 +86,9 @@ module _ (w nw : List ℕ) (f nf : List Float) (from at : ℕ)
     (words : (i : ℕ) → i < nodes_words → word_of nw i ≡ word_of w (from + i))
     (floats : (i : ℕ) → i < nodes_words → float_of nf i ≡ float_of f (from + i))
   where
-    node-from : at < nodes_most → node_at nw nf at ≡ node_from w f (from + 9 * at)
+    node_from_lem : at < nodes_most → node_at nw nf at ≡ node_from w f (from + 9 * at)
     unfolding node_at
-    node-from h =
+    node_from_lem h =
         let i : ℕ = 9 * at in
         let by : (k : ℕ) → from + (i + k) ≡ from + i + k = λ k. omega arith in
         rw (
@@ -116,7 +116,7 @@ pub node_here
     → node_at (nodes_of w) (nodes_of f) at ≡ node_from w f (nodes_first + 9 * at)
 unfolding nodes_of
 node_here w f at h =
-    node-from w (take nodes_words (drop nodes_first w)) f (take nodes_words (drop nodes_first f)) nodes_first at
+    node_from_lem w (take nodes_words (drop nodes_first w)) f (take nodes_words (drop nodes_first f)) nodes_first at
     (λ i l. part_at w nodes_first nodes_words i 0 l) (λ i l. part_at f nodes_first nodes_words i nan l) h
 
 -- ---- past the ends
@@ -124,13 +124,13 @@ abbrev pub no_node : Node
 no_node = record { hull = no_box; start = 0; count = 0; right = 0 }
 
 module _ (w : List ℕ) (f : List Float) (lw : length w ≤ nodes_words) where
-  pub words-past : (at : ℕ) → nodes_most ≤ at → ((node_at w f at).count ≡ 0) × ((node_at w f at).right ≡ 0)
+  pub words_past : (at : ℕ) → nodes_most ≤ at → ((node_at w f at).count ≡ 0) × ((node_at w f at).right ≡ 0)
   unfolding node_at
-  words-past at h = (past_end w 0 nodes_words (9 * at + 7) lw (omega arith), past_end w 0 nodes_words (9 * at + 8) lw (omega arith))
+  words_past at h = (past_end w 0 nodes_words (9 * at + 7) lw (omega arith), past_end w 0 nodes_words (9 * at + 8) lw (omega arith))
 
-  node-past : length f ≤ nodes_words → (at : ℕ) → nodes_most ≤ at → node_at w f at ≡ no_node
+  node_past : length f ≤ nodes_words → (at : ℕ) → nodes_most ≤ at → node_at w f at ≡ no_node
   unfolding node_at
-  node-past lf at h =
+  node_past lf at h =
       let i : ℕ = 9 * at in
       rw (
         past_end f nan nodes_words i lf (omega arith),
@@ -146,32 +146,32 @@ module _ (w : List ℕ) (f : List Float) (lw : length w ≤ nodes_words) where
 
 pub node_none
     : (w : List ℕ) (f : List Float) (at : ℕ) → nodes_most ≤ at → node_at (nodes_of w) (nodes_of f) at ≡ no_node
-node_none w f at h = node-past (nodes_of w) (nodes_of f) (nodes_few w) (nodes_few f) at h
+node_none w f at h = node_past (nodes_of w) (nodes_of f) (nodes_few w) (nodes_few f) at h
 
 -- ---- the order table: what is left to mark of n places from place i on
 module _ (o : List ℕ) (n i : ℕ) (seen : List Bool) where
-  pub marks-end : n ≤ i → marks_of o n (n - i) i seen ≡ true
+  pub marks_end : n ≤ i → marks_of o n (n - i) i seen ≡ true
   unfolding marks_of
-  marks-end h = let z : n - i ≡ 0 = omega arith in rw z
+  marks_end h = let z : n - i ≡ 0 = omega arith in rw z
 
   module _ (h : i < n) where
     next : n - i ≡ suc (n - (i + 1))
     next = omega arith
 
     module _ (x : ℕ) (e : x ≡ word_of o i) where
-      pub marks-high : n ≤ x → marks_of o n (n - i) i seen ≡ false
+      pub marks_high : n ≤ x → marks_of o n (n - i) i seen ≡ false
       unfolding marks_of
-      marks-high g = rw (next, sym e) (simp (le-ltb x n g))
+      marks_high g = rw (next, sym e) (simp (le-ltb x n g))
 
-      pub marks-twice : x < n → get_or seen x false ≡ true → marks_of o n (n - i) i seen ≡ false
+      pub marks_twice : x < n → get_or seen x false ≡ true → marks_of o n (n - i) i seen ≡ false
       unfolding marks_of
-      marks-twice g s = rw (next, sym e) (simp (lt-ltb x n g, s))
+      marks_twice g s = rw (next, sym e) (simp (lt-ltb x n g, s))
 
-      pub marks-step
+      pub marks_step
           : x < n → get_or seen x false ≡ false
           → marks_of o n (n - i) i seen ≡ marks_of o n (n - (i + 1)) (i + 1) (set seen x true)
       unfolding marks_of
-      marks-step g s = rw (next, sym e) (simp (lt-ltb x n g, s))
+      marks_step g s = rw (next, sym e) (simp (lt-ltb x n g, s))
 
 pub order_few : (o : List ℕ) (n : ℕ) → n ≤ 256 → order_ok o n ≡ marks_of o n (n - 0) 0 (replicate 256 false)
 unfolding order_ok

@@ -38,10 +38,10 @@ module _ (o : List ℕ) (n : ℕ) where
 
   -- one place more at the front
   module _ (k i : ℕ) (seen : List Bool) where
-    fresh-more
+    fresh_more
         : n ≤ length seen → word_of o i < n → get_or seen (word_of o i) false ≡ false
         → Fresh k (i + 1) (set seen (word_of o i) true) → Fresh (suc k) i seen
-    fresh-more l x s q =
+    fresh_more l x s q =
         let new : (j : ℕ) → i < j → j < i + suc k → word_of o j ≡ word_of o i → ⊥
         = λ j g h. other seen (word_of o i) (word_of o j) (omega arith) (q.unseen j (omega arith) (omega arith)) in
         record {
@@ -60,8 +60,8 @@ module _ (o : List ℕ) (n : ℕ) where
         at_place : {j : ℕ} → i ≡ j → word_of o i < n → word_of o j < n
         at_place {j} e h = let d : word_of o i ≡ word_of o j = ap (word_of o) e in omega arith
 
-    fresh-less : Fresh (suc k) i seen → Fresh k (i + 1) (set seen (word_of o i) true)
-    fresh-less q =
+    fresh_less : Fresh (suc k) i seen → Fresh k (i + 1) (set seen (word_of o i) true)
+    fresh_less q =
         record {
           below = λ j g h. q.below j (omega arith) (omega arith);
           apart = λ j m g d h. q.apart j m (omega arith) d (omega arith);
@@ -84,7 +84,7 @@ module _ (o : List ℕ) (n : ℕ) where
       let x : ℕ = word_of o i in
       let a = cond_true (ltb x n) (cond (get_or seen x false) false (marks_of o n k (i + 1) (set seen x true))) e in
       let b = cond_false (get_or seen x false) (marks_of o n k (i + 1) (set seen x true)) a.1 in
-      fresh-more k i seen l (ltb-true x n a.0) b.0 (fresh k (i + 1) (set seen x true) (simp length-set l) b.1)
+      fresh_more k i seen l (ltb-true x n a.0) b.0 (fresh k (i + 1) (set seen x true) (simp length-set l) b.1)
 
   marked : (k i : ℕ) (seen : List Bool) → Fresh k i seen → marks_of o n k i seen ≡ true
   unfolding marks_of
@@ -92,10 +92,10 @@ module _ (o : List ℕ) (n : ℕ) where
   marked (suc k) i seen q =
       let x = lt-ltb (word_of o i) n (q.below i (omega arith) (omega arith)) in
       simp (x, q.unseen i (omega arith) (omega arith))
-      (marked k (i + 1) (set seen (word_of o i) true) (fresh-less k i seen q))
+      (marked k (i + 1) (set seen (word_of o i) true) (fresh_less k i seen q))
 
-  pub order-exact : n ≤ 256 → (order_ok o n ≡ true) ↔ Once o n
-  order-exact h = (to, from)
+  pub order_exact : n ≤ 256 → (order_ok o n ≡ true) ↔ Once o n
+  order_exact h = (to, from)
     where
       marks : order_ok o n ≡ marks_of o n n 0 (replicate 256 false)
       marks = order_few o n h ∙ ap (λ (k : ℕ). marks_of o n k 0 (replicate 256 false)) (sub-zero n)

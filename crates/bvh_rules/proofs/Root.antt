@@ -20,10 +20,10 @@ use Rattle.bvh_rules.specs.Nodes.{node_at}
 use Rattle.bvh_rules.specs.Rules.{Tree, leaf, node, hull, size, depth, Stands, Boxed, Once, Holds}
 use Rattle.bvh_rules.specs.Inside.Steps.{check_of, order_ok, whole_of}
 use Rattle.bvh_rules.specs.Check.{judge_of, is_good}
-use Rattle.bvh_rules.proofs.Level.{judge-order, judge-whole}
-use Rattle.bvh_rules.proofs.Marks.{order-exact}
+use Rattle.bvh_rules.proofs.Level.{judge_order, judge_whole}
+use Rattle.bvh_rules.proofs.Marks.{order_exact}
 use Rattle.bvh_boxes.proofs.Laws.{inside_refl}
-use Rattle.bvh_rules.proofs.Accept.{Found, bad_good, sub-to, sub-exact}
+use Rattle.bvh_rules.proofs.Accept.{Found, bad_good, sub_to, sub_exact}
 
 good_is : (s : Sub) → is_good s ≡ true → (a : ℕ) × (b : ℕ) × (s ≡ Good a b)
 good_is Bad e = absurd (false≢true e)
@@ -50,16 +50,16 @@ module _ (w : List ℕ) (f : List Float) (o : List ℕ) (bs : List Aabb) where
         pub after : next ≡ size tree
         pub last : «end» ≡ length bs
 
-      by-walk
+      by_walk
           : (s : Sub) (a b : ℕ) → s ≡ check_of levels w f o bs (node_at w f 0).hull 0 0 → Once o (length bs)
           → whole_of s (length bs) ≡ Good a b → Whole a b
-      by-walk Bad a b e q g = absurd (bad_good a b g)
-      by-walk (Good x y) a b e q g = by_end (eqb y (length bs)) refl g
+      by_walk Bad a b e q g = absurd (bad_good a b g)
+      by_walk (Good x y) a b e q g = by_end (eqb y (length bs)) refl g
         where
           by_end : (t : Bool) → eqb y (length bs) ≡ t → cond t (Good x y) Bad ≡ Good a b → Whole a b
           by_end false h g = absurd (bad_good a b g)
           by_end true h g =
-              let p = sub-to w f o bs levels (node_at w f 0).hull 0 0 x y (sym e) in
+              let p = sub_to w f o bs levels (node_at w f 0).hull 0 0 x y (sym e) in
               let g' : Good x y ≡ Good a b = g in
               let ea : x ≡ a = cc in
               let eb : y ≡ b = cc in
@@ -76,14 +76,14 @@ module _ (w : List ℕ) (f : List Float) (o : List ℕ) (bs : List Aabb) where
       ne e = omega arith
 
       by_order : (a b : ℕ) (t : Bool) → order_ok o (length bs) ≡ t → judge_of levels w f o bs ≡ Good a b → Whole a b
-      by_order a b false e g = absurd (bad_good a b (judge-order levels w f o bs (length bs) refl ne e ∙ g))
+      by_order a b false e g = absurd (bad_good a b (judge_order levels w f o bs (length bs) refl ne e ∙ g))
       by_order a b true e g =
           let s : Sub = check_of levels w f o bs (node_at w f 0).hull 0 0 in
-          by-walk s a b refl ((order-exact o (length bs) few).0 e) (judge-whole levels w f o bs (length bs) refl ne e (node_at w f 0) refl s refl ∙ g)
+          by_walk s a b refl ((order_exact o (length bs) few).0 e) (judge_whole levels w f o bs (length bs) refl ne e (node_at w f 0) refl s refl ∙ g)
 
-      judge-tree
+      judge_tree
           : (t : Tree) → Holds w f o bs t → depth t < levels → judge_of levels w f o bs ≡ Good (size t) (length bs)
-      judge-tree t h d =
+      judge_tree t h d =
           let box : T (inside (hull t) (node_at w f 0).hull) = subst (λ (x : Aabb). T (inside (hull t) x)) (sym (root_hull w f 0 t h.stands)) (inside_refl (hull t) (root_finite o bs 0 t h.boxed)) in
           let p : Found w f o bs levels (node_at w f 0).hull 0 0 (size t) (length bs)
           = record {
@@ -98,22 +98,22 @@ module _ (w : List ℕ) (f : List Float) (o : List ℕ) (bs : List Aabb) where
                 (arith, h.all);
             few = omega arith;
           } in
-          let s = (sub-exact w f o bs lw levels (node_at w f 0).hull 0 0 (size t) (length bs)).1 p in
-          sym (judge-whole levels w f o bs (length bs) refl ne ((order-exact o (length bs) few).1 h.once) (node_at w f 0) refl (Good (size t) (length bs)) (sym s)) ∙
+          let s = (sub_exact w f o bs lw levels (node_at w f 0).hull 0 0 (size t) (length bs)).1 p in
+          sym (judge_whole levels w f o bs (length bs) refl ne ((order_exact o (length bs) few).1 h.once) (node_at w f 0) refl (Good (size t) (length bs)) (sym s)) ∙
           rw (eq-eqb (length bs) (length bs) refl)
 
       -- a good answer tells the number of nodes and of objects
-      pub judge-exact : (a b : ℕ) → (judge_of levels w f o bs ≡ Good a b) ↔ Whole a b
-      judge-exact a b = (
+      pub judge_exact : (a b : ℕ) → (judge_of levels w f o bs ≡ Good a b) ↔ Whole a b
+      judge_exact a b = (
         by_order a b (order_ok o (length bs)) refl,
-        λ p. judge-tree p.tree p.holds p.low ∙ rw (p.after, p.last),
+        λ p. judge_tree p.tree p.holds p.low ∙ rw (p.after, p.last),
       )
 
-      pub good-exact : (is_good (judge_of levels w f o bs) ≡ true) ↔ ((t : Tree) × (Holds w f o bs t × (depth t < levels)))
-      good-exact = (to, λ p. ap is_good (judge-tree p.0 p.1.0 p.1.1))
+      pub good_exact : (is_good (judge_of levels w f o bs) ≡ true) ↔ ((t : Tree) × (Holds w f o bs t × (depth t < levels)))
+      good_exact = (to, λ p. ap is_good (judge_tree p.0 p.1.0 p.1.1))
         where
           to : is_good (judge_of levels w f o bs) ≡ true → (t : Tree) × (Holds w f o bs t × (depth t < levels))
           to e =
               let g = good_is (judge_of levels w f o bs) e in
-              let p = (judge-exact g.0 g.1).0 g.2 in
+              let p = (judge_exact g.0 g.1).0 g.2 in
               (p.tree, (p.holds, p.low))

@@ -20,7 +20,7 @@ use Rattle.bvh_rules.specs.declared.Kind.{Kind}
 use Rattle.bvh_rules.specs.declared.Kind.TheVariants.{Wrong, Leaf, Inner}
 use Rattle.bvh_rules.specs.Nodes.{inner_node, leaf_node}
 use Rattle.bvh_rules.specs.Inside.Steps.{held_at, holds_all, leaf_words, leaf_ok, hull_ok, kind_of}
-use Rattle.bvh_rules.proofs.Lists.{holds-none, holds_more}
+use Rattle.bvh_rules.proofs.Lists.{holds_none, holds_more}
 use Rattle.bvh_rules.proofs.Level.{cond_true}
 
 -- ---- its box
@@ -41,25 +41,25 @@ module _ (o : List ℕ) (bs : List Aabb) (b : Aabb) (s : ℕ) where
   abbrev pub Held : ℕ → Type 0
   Held c = (i : ℕ) → s ≤ i → i < s + c → T (inside (box_at bs (word_of o i)) b)
 
-  holds-suc : (c : ℕ) → holds_all o bs b s (suc c) ≡ holds_all o bs b s c && held_at o bs b (s + c)
-  holds-suc c = rw (sym (add-one c), holds_more)
+  holds_suc : (c : ℕ) → holds_all o bs b s (suc c) ≡ holds_all o bs b s c && held_at o bs b (s + c)
+  holds_suc c = rw (sym (add-one c), holds_more)
 
-  pub holds-to : (c : ℕ) → holds_all o bs b s c ≡ true → Held c
+  pub holds_to : (c : ℕ) → holds_all o bs b s c ≡ true → Held c
   unfolding held_at
-  holds-to zero e i g h = absurd (omega arith)
-  holds-to (suc c) e i g h =
-      let p = (and-eq-true_iff (holds_all o bs b s c) (held_at o bs b (s + c))).0 (sym (holds-suc c) ∙ e) in
+  holds_to zero e i g h = absurd (omega arith)
+  holds_to (suc c) e i g h =
+      let p = (and-eq-true_iff (holds_all o bs b s c) (held_at o bs b (s + c))).0 (sym (holds_suc c) ∙ e) in
       let k : i ≤ s + c = omega arith in
       ⊎_elim (λ q. subst (λ (j : ℕ). T (inside (box_at bs (word_of o j)) b)) (sym q)
-      (passes (held_at o bs b (s + c)) p.1)) (λ q. holds-to c p.0 i g q) (eq-or-lt_of_le k)
+      (passes (held_at o bs b (s + c)) p.1)) (λ q. holds_to c p.0 i g q) (eq-or-lt_of_le k)
 
-  pub holds-from : (c : ℕ) → Held c → holds_all o bs b s c ≡ true
+  pub holds_from : (c : ℕ) → Held c → holds_all o bs b s c ≡ true
   unfolding held_at
-  holds-from zero h = sym (holds-none o bs b s)
-  holds-from (suc c) h =
-      let p = holds-from c (λ i g k. h i g (omega arith)) in
+  holds_from zero h = sym (holds_none o bs b s)
+  holds_from (suc c) h =
+      let p = holds_from c (λ i g k. h i g (omega arith)) in
       let q = is_true (held_at o bs b (s + c)) (h (s + c) (omega arith) (omega arith)) in
-      holds-suc c ∙ (and-eq-true_iff (holds_all o bs b s c) (held_at o bs b (s + c))).1 (p, q)
+      holds_suc c ∙ (and-eq-true_iff (holds_all o bs b s c) (held_at o bs b (s + c))).1 (p, q)
 
   pub holds_not : (c j : ℕ) → j < c → held_at o bs b (s + j) ≡ false → holds_all o bs b s c ≡ false
   unfolding held_at
@@ -67,7 +67,7 @@ module _ (o : List ℕ) (bs : List Aabb) (b : Aabb) (s : ℕ) where
     where
       go : (x : Bool) → holds_all o bs b s c ≡ x → holds_all o bs b s c ≡ false
       go false q = q
-      go true q = absurd (subst T e (holds-to c q (s + j) (omega arith) (omega arith)))
+      go true q = absurd (subst T e (holds_to c q (s + j) (omega arith) (omega arith)))
 
 -- ---- a leaf's words
 pub record IsLeaf (o : List ℕ) (bs : List Aabb) (v : Node) (s : ℕ) : Type 0 where
@@ -77,9 +77,9 @@ pub record IsLeaf (o : List ℕ) (bs : List Aabb) (v : Node) (s : ℕ) : Type 0 
   pub held : Held o bs v.hull s v.count
 
 module _ (o : List ℕ) (bs : List Aabb) (v : Node) (s : ℕ) where
-  pub leaf-to : leaf_ok o bs v s ≡ true → IsLeaf o bs v s
+  pub leaf_to : leaf_ok o bs v s ≡ true → IsLeaf o bs v s
   unfolding leaf_ok leaf_words
-  leaf-to e =
+  leaf_to e =
       let n : ℕ = length bs in
       let p = cond_true (leaf_words v n s) (holds_all o bs v.hull s v.count) e in
       let q = (and-eq-true_iff (eqb v.right 0 && eqb v.start s) (leb s n && leb v.count (n - s))).0 p.0 in
@@ -89,12 +89,12 @@ module _ (o : List ℕ) (bs : List Aabb) (v : Node) (s : ℕ) where
         right = eqb-true v.right 0 x.0;
         start = eqb-true v.start s x.1;
         few = omega (arith, leb-true s n y.0, leb-true v.count (n - s) y.1);
-        held = holds-to o bs v.hull s v.count p.1;
+        held = holds_to o bs v.hull s v.count p.1;
       }
 
-  pub leaf-from : IsLeaf o bs v s → leaf_ok o bs v s ≡ true
+  pub leaf_from : IsLeaf o bs v s → leaf_ok o bs v s ≡ true
   unfolding leaf_ok leaf_words
-  leaf-from p =
+  leaf_from p =
       let few : s + v.count ≤ length bs = p.few in
       let a = le-leb s (length bs) (omega arith) in
       let b = le-leb v.count (length bs - s) (omega arith) in
@@ -103,7 +103,7 @@ module _ (o : List ℕ) (bs : List Aabb) (v : Node) (s : ℕ) where
         eq-eqb v.start s p.start,
         a,
         b,
-        holds-from o bs v.hull s v.count p.held,
+        holds_from o bs v.hull s v.count p.held,
       )
 
 -- ---- which kind it is
@@ -149,12 +149,12 @@ pub record KindInner (v : Node) (outer : Aabb) (at x y : ℕ) : Type 0 where
   pub next : at + 1 ≡ x
 
 module _ (o : List ℕ) (bs : List Aabb) (v : Node) (outer : Aabb) (at s x y : ℕ) where
-  pub kind-leaf-to : kind_of o bs v outer at s ≡ Leaf x y → KindLeaf o bs v outer at s x y
+  pub kind_leaf_to : kind_of o bs v outer at s ≡ Leaf x y → KindLeaf o bs v outer at s x y
   unfolding kind_of
-  kind-leaf-to e =
+  kind_leaf_to e =
       let p = is_Is_leaf (hull_ok v.hull outer at) (eqb v.count 0) (eqb v.start 0) (leaf_ok o bs v s) (at + 1)
       v.right (at + 1) (s + v.count) x y e in
-      let l = leaf-to o bs v s p.2 in
+      let l = leaf_to o bs v s p.2 in
       let ne = eqb-false v.count 0 p.1 in
       record {
         good = p.0;
@@ -165,9 +165,9 @@ module _ (o : List ℕ) (bs : List Aabb) (v : Node) (outer : Aabb) (at s x y : �
         last = p.4;
       }
 
-  pub kind-inner-to : kind_of o bs v outer at s ≡ Inner x y → KindInner v outer at x y
+  pub kind_inner_to : kind_of o bs v outer at s ≡ Inner x y → KindInner v outer at x y
   unfolding kind_of
-  kind-inner-to e =
+  kind_inner_to e =
       let p = is_inner (hull_ok v.hull outer at) (eqb v.count 0) (eqb v.start 0) (leaf_ok o bs v s) (at + 1)
       v.right (at + 1) (s + v.count) x y e in
       let es : v.start ≡ 0 = eqb-true v.start 0 p.2 in

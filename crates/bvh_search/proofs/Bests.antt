@@ -39,20 +39,20 @@ module _ (o : List ℕ) (w : List ℕ) (f : List Float) (p : Vec3) (bound : Floa
     abbrev c : Float
     c = less_of d (dist o w f p i)
 
-    one_more
+    one_more_lem
         : (c ≡ d) ⊎ (c ≡ dist o w f p i) → (d ≡ bound) ⊎ ((j : ℕ) × In j seen × (d ≡ dist o w f p j))
         → (c ≡ bound) ⊎ ((j : ℕ) × In j (seen ++ (i ∷ [])) × (c ≡ dist o w f p j))
-    one_more (inl e) (inl h) = inl (e ∙ h)
-    one_more (inl e) (inr h) = inr (h.0, in_left h.0 seen (i ∷ []) h.1, e ∙ h.2)
-    one_more (inr e) h = inr (i, in_right i seen (i ∷ []) (inl refl), e)
+    one_more_lem (inl e) (inl h) = inl (e ∙ h)
+    one_more_lem (inl e) (inr h) = inr (h.0, in_left h.0 seen (i ∷ []) h.1, e ∙ h.2)
+    one_more_lem (inr e) h = inr (i, in_right i seen (i ∷ []) (inl refl), e)
 
-    good-one : (passed : List Passed) → Good d seen passed → Good c (seen ++ (i ∷ [])) passed
-    good-one passed g =
+    good_one : (passed : List Passed) → Good d seen passed → Good c (seen ++ (i ∷ [])) passed
+    good_one passed g =
         let n = le_left d bound g.least.bounded in
         let down = less_of_left d (dist o w f p i) n in
         record {
           least = record {
-            one = one_more (less_of_one d (dist o w f p i)) g.least.one;
+            one = one_more_lem (less_of_one d (dist o w f p i)) g.least.one;
             bounded = le_trans c d bound down g.least.bounded;
             below = λ j h k.
                 elim (in_split j seen (i ∷ []) h) [
@@ -64,24 +64,24 @@ module _ (o : List ℕ) (w : List ℕ) (f : List Float) (p : Vec3) (bound : Floa
           far = λ q h. le_trans c d (near o w f p q.under) down (g.far q h);
         }
 
-  good-leaf
+  good_leaf
       : (k s : ℕ) (best : DistHit) (seen : List ℕ) (passed : List Passed) → Good best.d seen passed
       → Good (leaf_hit w f o p s k best).d (seen ++ list_from place s k) passed
   unfolding leaf_hit nearest list_from
-  good-leaf zero s best seen passed g = rw append-nil g
-  good-leaf (suc k) s best seen passed g =
+  good_leaf zero s best seen passed g = rw append-nil g
+  good_leaf (suc k) s best seen passed g =
       rw (← (append_assoc seen (s ∷ []) (list_from place (suc s) k)))
-      (good-leaf k (suc s) (plan.closer best (hit_of (piece_in w f o s) p)) (seen ++ (s ∷ [])) passed
-      (rw (closer_d (piece_in w f o s) p best) (good-one s best.d seen passed g)))
+      (good_leaf k (suc s) (plan.closer best (hit_of (piece_in w f o s) p)) (seen ++ (s ∷ [])) passed
+      (rw (closer_d (piece_in w f o s) p best) (good_one s best.d seen passed g)))
 
   abbrev pub Kept : Walk → Type 0
   Kept σ = Good σ.best.d σ.seen σ.passed
 
-  good-visit : (t : Tree) (s : ℕ) (σ : Walk) → Kept σ → Kept (visit o w f p t s σ)
-  good-visit =
+  good_visit : (t : Tree) (s : ℕ) (σ : Walk) → Kept σ → Kept (visit o w f p t s σ)
+  good_visit =
       keeps o w f p Kept
       (λ t s σ e g. record { least = g.least; far = λ q h. elim h [ inl m ↦ rw m e | inr m ↦ g.far q m ] })
-      (λ s k σ g. good-leaf k s σ.best σ.seen σ.passed g)
+      (λ s k σ g. good_leaf k s σ.best σ.seen σ.passed g)
       (λ σ g. g)
 
 pub good_walk
@@ -89,7 +89,7 @@ pub good_walk
     → T (eq bound.d bound.d)
     → Kept o w f p bound.d (visit o w f p t 0 (walk_from bound))
 good_walk o w f p t bound n =
-    good-visit o w f p bound.d t 0 (walk_from bound) (record {
+    good_visit o w f p bound.d t 0 (walk_from bound) (record {
       least = record { one = inl refl; bounded = le_refl bound.d (rw number_eq at n); below = λ i h. absurd h };
       far = λ q h. absurd h;
     })

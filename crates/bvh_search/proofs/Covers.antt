@@ -8,7 +8,7 @@ use Rattle.words.specs.Lists.{list_from}
 use Rattle.bvh_rules.specs.Rules.{Tree, leaf, node, weight, place}
 use Rattle.bvh_search.specs.Walk.{Passed, Walk, more, skip, visit}
 use Rattle.bvh_search.specs.Demand.{In}
-use Rattle.bvh_search.proofs.Steps.{at_leaf, at-node, keeps}
+use Rattle.bvh_search.proofs.Steps.{at_leaf, at_node, keeps}
 
 -- ---- places in a list
 pub in_left : {A : Type 0} (a : A) (xs ys : List A) → In a xs → In a (xs ++ ys)
@@ -62,31 +62,31 @@ module _ (o : List ℕ) (w : List ℕ) (f : List Float) (p : Vec3) where
   abbrev Met : ℕ → Walk → Type 0
   Met i σ = In i σ.seen ⊎ Under σ.passed i
 
-  met-still : (i : ℕ) (t : Tree) (s : ℕ) (σ : Walk) → Met i σ → Met i (walk t s σ)
-  met-still i t s σ (inl h) = inl ((grows t s σ).seen i h)
-  met-still i t s σ (inr u) =
+  met_still : (i : ℕ) (t : Tree) (s : ℕ) (σ : Walk) → Met i σ → Met i (walk t s σ)
+  met_still i t s σ (inl h) = inl ((grows t s σ).seen i h)
+  met_still i t s σ (inr u) =
       inr (record { box = u.box; was = (grows t s σ).passed u.box u.was; from = u.from; to = u.to })
 
-  met-skip : (i : ℕ) (t : Tree) (s : ℕ) (σ : Walk) → s ≤ i → i < s + weight t → Met i (skip o w f p t s σ)
-  met-skip i t s σ h k = inr (record { box = record { under = t; first = s }; was = inl refl; from = h; to = k })
+  met_skip : (i : ℕ) (t : Tree) (s : ℕ) (σ : Walk) → s ≤ i → i < s + weight t → Met i (skip o w f p t s σ)
+  met_skip i t s σ h k = inr (record { box = record { under = t; first = s }; was = inl refl; from = h; to = k })
 
   pub met
       : (i : ℕ) (t : Tree) (s : ℕ) (σ : Walk) → s ≤ i → i < s + weight t
       → In i (visit o w f p t s σ).seen ⊎ Under (visit o w f p t s σ).passed i
   met i (leaf b c) s σ h k =
       at_leaf o w f p (Met i) s σ b c
-      (λ _. met-skip i (leaf b c) s σ h k)
+      (λ _. met_skip i (leaf b c) s σ h k)
       (inl (in_right i σ.seen (list_from place s c) (in_from i s c h k)))
   met i (node b l r) s σ h k =
       let σ-l = walk l s (more o w f p σ) in
       let σ-r = walk r (s + weight l) (more o w f p σ) in
-      at-node o w f p (Met i) s σ b l r
-      (λ _. met-skip i (node b l r) s σ h k)
+      at_node o w f p (Met i) s σ b l r
+      (λ _. met_skip i (node b l r) s σ h k)
       (elim (dec_le (s + weight l) i) [
         | yes g ↦ met i r (s + weight l) σ-l g (omega arith)
-        | no g ↦ met-still i r (s + weight l) σ-l (met i l s (more o w f p σ) h (omega arith))
+        | no g ↦ met_still i r (s + weight l) σ-l (met i l s (more o w f p σ) h (omega arith))
       ])
       (elim (dec_le (s + weight l) i) [
-        | yes g ↦ met-still i l s σ-r (met i r (s + weight l) (more o w f p σ) g (omega arith))
+        | yes g ↦ met_still i l s σ-r (met i r (s + weight l) (more o w f p σ) g (omega arith))
         | no g ↦ met i l s σ-r h (omega arith)
       ])

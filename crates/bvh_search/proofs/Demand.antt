@@ -8,11 +8,11 @@ use Rattle.plan.specs.declared.DistHit.{DistHit}
 use Rattle.plan.specs.Sections.{objects}
 use Rattle.plan.specs.Plan.{count_of}
 use Rattle.bvh_rules.specs.Rules.{Tree, size, Accepted}
-use Rattle.bvh_rules.proofs.Trees.{stands-fit}
-use Rattle.bvh_search.specs.Search.{searched, searchOf}
+use Rattle.bvh_rules.proofs.Trees.{stands_fit}
+use Rattle.bvh_search.specs.Search.{searched, search_of}
 use Rattle.bvh_search.specs.Walk.{walk_from, visit}
 use Rattle.bvh_search.specs.Demand.{Demand}
-use Rattle.bvh_search.proofs.Visit.{answer, search-walks}
+use Rattle.bvh_search.proofs.Visit.{answer, search_walks}
 use Rattle.bvh_search.proofs.Steps.{counts}
 use Rattle.bvh_search.proofs.Covers.{met}
 use Rattle.bvh_search.proofs.Bests.{good_walk}
@@ -41,22 +41,22 @@ answered o w f p t bound n =
 -- nodes nw and nf, order o, a plan's words w and f whose objects have the boxes bs, and the tree t that the tables hold
 module _ (nw : List ℕ) (nf : List Float) (o w : List ℕ) (f : List Float) (bs : List Aabb) (t : Tree) (long : length nw ≡ 4599) (few : length bs ≤ 256)
     (all : length bs ≡ count_of objects w) (held : Accepted nw nf o bs t) (p : Vec3) (bound : DistHit) where
-  pub demand-met : T (eq bound.d bound.d) → Demand o w f p t bound (searchOf nw nf o w f p bound)
-  demand-met n = rw (search-walks nw nf o w f p long bs t held few all bound) (answered o w f p t bound n)
+  pub demand_met : T (eq bound.d bound.d) → Demand o w f p t bound (search_of nw nf o w f p bound)
+  demand_met n = rw (search_walks nw nf o w f p long bs t held few all bound) (answered o w f p t bound n)
 
   -- each node is popped, and each object evaluated, at most once
-  pub demand-counts : ((searchOf nw nf o w f p bound).popped ≤ size t) × (size t ≤ 511) × ((searchOf nw nf o w f p bound).evaluated ≤ count_of objects w)
-  demand-counts =
+  pub demand_counts : ((search_of nw nf o w f p bound).popped ≤ size t) × (size t ≤ 511) × ((search_of nw nf o w f p bound).evaluated ≤ count_of objects w)
+  demand_counts =
       let k = counts o w f p t 0 (walk_from bound) in
-      rw (search-walks nw nf o w f p long bs t held few all bound) (
+      rw (search_walks nw nf o w f p long bs t held few all bound) (
         omega (arith, k.pops),
-        omega (arith, stands-fit nw nf long 0 0 t held.holds.stands),
+        omega (arith, stands_fit nw nf long 0 0 t held.holds.stands),
         omega (arith, k.evals, held.holds.all),
       )
 
 -- with no objects the bound comes back, and nothing is popped
 pub search_empty
     : (nw : List ℕ) (nf : List Float) (o w : List ℕ) (f : List Float) (p : Vec3) (bound : DistHit)
-    → count_of objects w ≡ 0 → searchOf nw nf o w f p bound ≡ searched bound 0 0 true
-unfolding searchOf
+    → count_of objects w ≡ 0 → search_of nw nf o w f p bound ≡ searched bound 0 0 true
+unfolding search_of
 search_empty nw nf o w f p bound e = rw e

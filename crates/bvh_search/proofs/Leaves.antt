@@ -4,7 +4,7 @@ use Rattle.std.proofs.Common.{◌≡◌, ℕ, ◌+◌, ◌-◌, ◌<◌, ◌≤�
 use lib.Ieee.{Float}
 use Rattle.vec.specs.declared.Vec3.{Vec3}
 use Rattle.words.specs.Lists.{list_from}
-use Rattle.words.proofs.Runs.{from-snoc}
+use Rattle.words.proofs.Runs.{from_snoc}
 use Rattle.plan.specs.declared.DistHit.{DistHit}
 use Rattle.plan.specs.Nearest.{hit_of, closer, nearest}
 use Rattle.plan.proofs.Lists.{nearest_snoc}
@@ -12,29 +12,29 @@ use Rattle.bvh_rules.specs.declared.Node.{Node}
 use Rattle.bvh_search.specs.Search.{piece_in, leaf_hit, places_of}
 
 module _ (v : Node) where
-  pub places-all : v.start < 256 → v.count < 256 - v.start → v.count ≡ places_of v
+  pub places_all : v.start < 256 → v.count < 256 - v.start → v.count ≡ places_of v
   unfolding places_of
-  places-all h k = omega arith
+  places_all h k = omega arith
 
-  pub places-room : 256 - v.start ≤ v.count → 256 - v.start ≡ places_of v
+  pub places_room : 256 - v.start ≤ v.count → 256 - v.start ≡ places_of v
   unfolding places_of
-  places-room k = omega arith
+  places_room k = omega arith
 
-  pub places-none : 256 ≤ v.start → 0 ≡ places_of v
+  pub places_none : 256 ≤ v.start → 0 ≡ places_of v
   unfolding places_of
-  places-none h = omega arith
+  places_none h = omega arith
 
-  pub places-few : places_of v ≤ 256
+  pub places_few : places_of v ≤ 256
   unfolding places_of
-  places-few = omega arith
+  places_few = omega arith
 
 module _ (w : List ℕ) (f : List Float) (o : List ℕ) (p : Vec3) (s : ℕ) (best : DistHit) where
-  pub hit-none : best ≡ leaf_hit w f o p s 0 best
+  pub hit_none : best ≡ leaf_hit w f o p s 0 best
   unfolding leaf_hit list_from nearest
-  hit-none = refl
+  hit_none = refl
 
-  pub hit-more
+  pub hit_more
       : (j : ℕ) → leaf_hit w f o p s (j + 1) best ≡ closer (leaf_hit w f o p s j best)
       (hit_of (piece_in w f o (s + j)) p)
   unfolding leaf_hit
-  hit-more j = rw (add-one, from-snoc (piece_in w f o) s j, nearest_snoc)
+  hit_more j = rw (add-one, from_snoc (piece_in w f o) s j, nearest_snoc)

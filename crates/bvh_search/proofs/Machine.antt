@@ -12,7 +12,7 @@ use Rattle.bvh_rules.specs.declared.Node.{Node}
 use Rattle.bvh_rules.specs.Nodes.{node_at}
 use Rattle.bvh_search.specs.declared.Searched.{Searched}
 use Rattle.bvh_search.specs.declared.State.{State}
-use Rattle.bvh_search.specs.Search.{Turn, on, full, searched, leaf_scan, places_of, nodeDist, pushed, turn_of, run_of}
+use Rattle.bvh_search.specs.Search.{Turn, on, full, searched, leaf_scan, places_of, node_dist, pushed, turn_of, run_of}
 use Rattle.bvh_search.specs.Inside.Machine.{
   Tables,
   tables,
@@ -29,7 +29,7 @@ use Rattle.bvh_search.specs.Inside.Machine.{
   step_of,
 }
 use Rattle.root_tests.specs.Inside.Tests.{far_off, left_first, limit_of}
-use Rattle.bvh_search.proofs.Leaves.{places-few}
+use Rattle.bvh_search.proofs.Leaves.{places_few}
 use Rattle.bvh_search.proofs.Stack.{waiting, length_waiting, waiting_pop, waiting_push}
 
 -- what holds of both sides of a test
@@ -39,19 +39,19 @@ either P false x y f g = g refl
 
 module _ (nw : List ℕ) (nf : List Float) (o : List ℕ) (w : List ℕ) (f : List Float) (p : Vec3) where
   -- a box distance is the root of the square held
-  pub dist-is : (a : ℕ) → nodeDist nw nf o w f p a ≡ root_of (square_at nw nf p a)
-  unfolding nodeDist box_dist vlength square_at box_square
-  dist-is a = refl
+  pub dist_is : (a : ℕ) → node_dist nw nf o w f p a ≡ root_of (square_at nw nf p a)
+  unfolding node_dist box_dist vlength square_at box_square
+  dist_is a = refl
 
   run_none : (fuel : ℕ) (b : DistHit) (k e : ℕ) → run_of nw nf o w f p fuel [] b k e ≡ searched b k e true
   unfolding run_of
   run_none zero b k e = refl
   run_none (suc fuel) b k e = refl
 
-  run-spent
+  run_spent
       : (a : ℕ) (rest : List ℕ) (b : DistHit) (k e : ℕ) → run_of nw nf o w f p 0 (a ∷ rest) b k e ≡ searched b k e false
   unfolding run_of
-  run-spent a rest b k e = refl
+  run_spent a rest b k e = refl
 
   run_on
       : (fuel a : ℕ) (rest : List ℕ) (b : DistHit) (k e : ℕ) (l : List ℕ) (h : DistHit) (c : ℕ)
@@ -60,10 +60,10 @@ module _ (nw : List ℕ) (nf : List Float) (o : List ℕ) (w : List ℕ) (f : Li
   unfolding run_of
   run_on fuel a rest b k e l h c t = rw t
 
-  run-full : (fuel a : ℕ) (rest : List ℕ) (b : DistHit) (k e : ℕ) → turn_of nw nf o w f p a rest b ≡ full →
+  run_full : (fuel a : ℕ) (rest : List ℕ) (b : DistHit) (k e : ℕ) → turn_of nw nf o w f p a rest b ≡ full →
       run_of nw nf o w f p (suc fuel) (a ∷ rest) b k e ≡ searched b (k + 1) e false
   unfolding run_of
-  run-full fuel a rest b k e t = rw t
+  run_full fuel a rest b k e t = rw t
 
   module _ (all : Searched) where
     -- the tables and the counts; the run with nothing in hand; the run with a node in hand
@@ -94,11 +94,11 @@ module _ (nw : List ℕ) (nf : List Float) (o : List ℕ) (w : List ℕ) (f : Li
           → searched t.state.hit t.state.popped t.state.evaluated (eqb t.state.done 1) ≡ all
 
     -- the next waiting node in hand, or the end of a run with none
-    next-law
+    next_law
         : (stack : List ℕ) (keys : List Float) (s : State) → Idle stack keys s
         → After s.popped (tables stack keys (next_of stack keys s))
     unfolding next_of
-    next-law stack keys s i =
+    next_law stack keys s i =
         let W = i.waits in
         either (λ (x : State). After s.popped (tables stack keys x)) (eqb s.sp 0) (ended s 1) _
         (λ e.
@@ -135,7 +135,7 @@ module _ (nw : List ℕ) (nf : List Float) (o : List ℕ) (w : List ℕ) (f : Li
         → searched s.hit s.popped s.evaluated false ≡ all
     ran_out stack keys s i h =
         let z : 511 - s.popped ≡ 0 = omega arith in
-        sym (run-spent s.at (waiting stack s.sp) s.hit s.popped s.evaluated) ∙
+        sym (run_spent s.at (waiting stack s.sp) s.hit s.popped s.evaluated) ∙
         ap (λ (k : ℕ). run_of nw nf o w f p k (s.at ∷ waiting stack s.sp) s.hit s.popped s.evaluated) (sym z) ∙ i.run
 
     module _ (stack : List ℕ) (keys : List Float) (s : State) (i : Busy stack keys s) (few : s.popped < 511) where
@@ -184,9 +184,9 @@ module _ (nw : List ℕ) (nf : List Float) (o : List ℕ) (w : List ℕ) (f : Li
         idle : turn ≡ on rest x.hit c → Idle stack keys x
         idle t = record { waits = waited; run = rw (es, ek, ee) (turned rest x.hit c t) }
 
-      near : (b : Bool) → far_off s.key s.hit.d ≡ b → le s.hit.d (nodeDist nw nf o w f p s.at) ≡ b
+      near : (b : Bool) → far_off s.key s.hit.d ≡ b → le s.hit.d (node_dist nw nf o w f p s.at) ≡ b
       unfolding far_off
-      near b e = rw (dist-is s.at, ← i.key) e
+      near b e = rw (dist_is s.at, ← i.key) e
 
       abbrev Popped : Tables → Type 0
       Popped = After (s.popped + 1)
@@ -194,7 +194,7 @@ module _ (nw : List ℕ) (nf : List Float) (o : List ℕ) (w : List ℕ) (f : Li
       nexted
           : (x : State) → x.popped ≡ s.popped + 1 → Idle stack keys x
           → Popped (tables stack keys (next_of stack keys x))
-      nexted x e j = subst (λ (k : ℕ). After k (tables stack keys (next_of stack keys x))) e (next-law stack keys x j)
+      nexted x e j = subst (λ (k : ℕ). After k (tables stack keys (next_of stack keys x))) e (next_law stack keys x j)
 
       skipped : far_off s.key s.hit.d ≡ true → Popped (tables stack keys (next_of stack keys (popping s)))
       unfolding turn_of
@@ -217,7 +217,7 @@ module _ (nw : List ℕ) (nf : List Float) (o : List ℕ) (w : List ℕ) (f : Li
           leafed z =
               let x : State = scanned (popping s) (leaf_scan w f o p v.start (places_of v) s.hit) in
               nexted x pops
-              (idle x (places_of v) (places-few v) refl pops (evals (places_of v) (places-few v)) refl refl
+              (idle x (places_of v) (places_few v) refl pops (evals (places_of v) (places_few v)) refl refl
               (rw (near false e, g, z)))
 
           module _ (z : eqb v.count 0 ≡ true) where
@@ -234,7 +234,7 @@ module _ (nw : List ℕ) (nf : List Float) (o : List ℕ) (w : List ℕ) (f : Li
                 record {
                   pops = pops;
                   on = λ h. absurd (omega arith);
-                  off = λ h. rw pops (sym (run-full (511 - (s.popped + 1)) s.at rest s.hit s.popped s.evaluated t) ∙ fuelled);
+                  off = λ h. rw pops (sym (run_full (511 - (s.popped + 1)) s.at rest s.hit s.popped s.evaluated t) ∙ fuelled);
                 }
 
             kept
@@ -280,9 +280,9 @@ module _ (nw : List ℕ) (nf : List Float) (o : List ℕ) (w : List ℕ) (f : Li
 
             order
                 : (b : Bool) → left_first (square_at nw nf p l) (square_at nw nf p r) ≡ b
-                → lt (nodeDist nw nf o w f p l) (nodeDist nw nf o w f p r) ≡ b
+                → lt (node_dist nw nf o w f p l) (node_dist nw nf o w f p r) ≡ b
             unfolding left_first
-            order b q = rw (dist-is l, dist-is r) q
+            order b q = rw (dist_is l, dist_is r) q
 
             both : Popped (children_of nw nf p stack keys (popping s) l r)
             unfolding children_of turn_of pushed
@@ -294,16 +294,16 @@ module _ (nw : List ℕ) (nf : List Float) (o : List ℕ) (w : List ℕ) (f : Li
                 (λ q. two r l k (rw (near false e, g, z, length_waiting stack s.sp, m, order true q)))
                 (λ q. two l r k (rw (near false e, g, z, length_waiting stack s.sp, m, order false q))))
 
-      opened-law : far_off s.key s.hit.d ≡ false → Popped (opened_of nw nf o w f p stack keys (popping s) v)
+      opened_law : far_off s.key s.hit.d ≡ false → Popped (opened_of nw nf o w f p stack keys (popping s) v)
       unfolding opened_of
-      opened-law e =
+      opened_law e =
           either Popped (ltb s.at 511) _ _
           (λ g. either Popped (eqb v.count 0) _ _ (both e g) (leafed e g))
           (past e)
 
       stepped : Popped (step_of nw nf o w f p stack keys s)
       unfolding step_of
-      stepped = either Popped (far_off s.key s.hit.d) _ _ skipped opened-law
+      stepped = either Popped (far_off s.key s.hit.d) _ _ skipped opened_law
 
-      pub step-law : (t : Tables) → t ≡ step_of nw nf o w f p stack keys s → After (s.popped + 1) t
-      step-law t e = subst Popped (sym e) stepped
+      pub step_law : (t : Tables) → t ≡ step_of nw nf o w f p stack keys s → After (s.popped + 1) t
+      step_law t e = subst Popped (sym e) stepped

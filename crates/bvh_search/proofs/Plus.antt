@@ -20,15 +20,15 @@ gap_plus x =
     (subst (λ (z : Float). T (le z (fmax x f0))) zero_is (fmax_right x f0 (rw zero_is tt)))
 
 module _ (nw : List ℕ) (nf : List Float) (p : Vec3) (a : ℕ) where
-  pub key-plus : T (le zero_f (square_at nw nf p a))
+  pub key_plus : T (le zero_f (square_at nw nf p a))
   unfolding square_at box_square vdot vmax vsplat
-  key-plus = add_plus binary32 _ _ (add_plus binary32 _ _ (gap_plus _) (gap_plus _)) (gap_plus _)
+  key_plus = add_plus binary32 _ _ (add_plus binary32 _ _ (gap_plus _) (gap_plus _)) (gap_plus _)
 
   pub key_fits : T (fits binary32 (square_at nw nf p a))
   unfolding square_at box_square vdot
   key_fits = add-fits binary32 _ _
 
   -- what a cast to f64 asks
-  pub key-wide : T (fits binary64 (square_at nw nf p a) && not (is_nan (square_at nw nf p a)))
-  key-wide =
-      cast_ok (square_at nw nf p a) key_fits (subst T (number_is (square_at nw nf p a)) (le_right zero_f _ key-plus))
+  pub key_wide : T (fits binary64 (square_at nw nf p a) && not (is_nan (square_at nw nf p a)))
+  key_wide =
+      cast_ok (square_at nw nf p a) key_fits (subst T (number_is (square_at nw nf p a)) (le_right zero_f _ key_plus))

@@ -5,24 +5,24 @@ use Rattle.std.proofs.Common.{◌≡◌, ℕ, zero, suc, ◌+◌, ◌*◌, ◌<�
 use lib.Ieee.{Float}
 use Rattle.vec.specs.declared.Vec3.{Vec3}
 use Rattle.sdf.specs.declared.Aabb.{Aabb}
-use Rattle.words.proofs.Runs.{from-same}
+use Rattle.words.proofs.Runs.{from_same}
 use Rattle.refusals.specs.Refusals.{no_tree}
 use Rattle.plan.specs.declared.DistHit.{DistHit}
 use Rattle.plan.specs.Sections.{objects, nodes_words}
 use Rattle.plan.specs.Plan.{Piece, Plan, count_of, plan_of}
 use Rattle.plan.specs.Nearest.{nearest, nothing}
 use Rattle.bvh_boxes.specs.Boxes.{boxes_of}
-use Rattle.bvh_boxes.proofs.Lists.{box-count}
+use Rattle.bvh_boxes.proofs.Lists.{box_count}
 use Rattle.bvh_rules.specs.Nodes.{nodes_of, order_of, node_at}
 use Rattle.bvh_rules.specs.Rules.{Tree, leaf, node, size, weight, Stands, Accepted, MeetsRules}
 use Rattle.bvh_rules.specs.Check.{judge_of, is_good, standing_number}
-use Rattle.bvh_rules.proofs.Exact.{standing-exact}
+use Rattle.bvh_rules.proofs.Exact.{standing_exact}
 use Rattle.bvh_search.specs.declared.Searched.{Searched}
-use Rattle.bvh_search.specs.Search.{Turn, on, full, piece_in, leaf_hit, nodeDist, pushed, searched}
-use Rattle.bvh_search.specs.Search.{turn_of, onTurn, run_of, searchOf}
+use Rattle.bvh_search.specs.Search.{Turn, on, full, piece_in, leaf_hit, node_dist, pushed, searched}
+use Rattle.bvh_search.specs.Search.{turn_of, on_turn, run_of, search_of}
 use Rattle.bvh_search.specs.Walk.{Walk, walk_from, visit}
 use Rattle.bvh_search.specs.Field.{hit_by, field_by}
-use Rattle.bvh_search.proofs.Visit.{answer, search-walks}
+use Rattle.bvh_search.proofs.Visit.{answer, search_walks}
 use Rattle.bvh_search.proofs.Demand.{search_empty}
 
 abbrev pub AtMost : List ℕ → List Float → ℕ → Type 0  -- whatever tree stands has no more than so many nodes
@@ -48,46 +48,46 @@ pub record Same (v w : List ℕ) (f g : List Float) : Type 0 where
 
 module _ (nw : List ℕ) (nf : List Float) (o v w : List ℕ) (f g : List Float) (p : Vec3)
     (same : (i : ℕ) → piece_in v f o i ≡ piece_in w g o i) where
-  leaf-same : (s c : ℕ) (best : DistHit) → leaf_hit v f o p s c best ≡ leaf_hit w g o p s c best
+  leaf_same : (s c : ℕ) (best : DistHit) → leaf_hit v f o p s c best ≡ leaf_hit w g o p s c best
   unfolding leaf_hit
-  leaf-same s c best =
+  leaf_same s c best =
       ap (λ (os : List Piece). nearest os p best)
-      (from-same (piece_in v f o) (piece_in w g o) s s c (λ j _. same (s + j)))
+      (from_same (piece_in v f o) (piece_in w g o) s s c (λ j _. same (s + j)))
 
-  turn-same : (a : ℕ) (rest : List ℕ) (b : DistHit) → turn_of nw nf o v f p a rest b ≡ turn_of nw nf o w g p a rest b
-  unfolding turn_of nodeDist pushed
-  turn-same a rest b = rw leaf-same
+  turn_same : (a : ℕ) (rest : List ℕ) (b : DistHit) → turn_of nw nf o v f p a rest b ≡ turn_of nw nf o w g p a rest b
+  unfolding turn_of node_dist pushed
+  turn_same a rest b = rw leaf_same
 
-  run-same
+  run_same
       : (fuel : ℕ) (l : List ℕ) (b : DistHit) (k e : ℕ)
       → run_of nw nf o v f p fuel l b k e ≡ run_of nw nf o w g p fuel l b k e
   unfolding run_of
-  run-same zero [] b k e = refl
-  run-same zero (a ∷ rest) b k e = refl
-  run-same (suc fuel) [] b k e = refl
-  run-same (suc fuel) (a ∷ rest) b k e =
+  run_same zero [] b k e = refl
+  run_same zero (a ∷ rest) b k e = refl
+  run_same (suc fuel) [] b k e = refl
+  run_same (suc fuel) (a ∷ rest) b k e =
       ap
       (λ (t : Turn).
-      onTurn nw nf o v f p t (λ l h c. run_of nw nf o v f p fuel l h (k + 1) (e + c)) (searched b (k + 1) e false))
-      (turn-same a rest b)
-      ∙ after (λ l h c. run-same fuel l h (k + 1) (e + c)) (turn_of nw nf o w g p a rest b)
+      on_turn nw nf o v f p t (λ l h c. run_of nw nf o v f p fuel l h (k + 1) (e + c)) (searched b (k + 1) e false))
+      (turn_same a rest b)
+      ∙ after (λ l h c. run_same fuel l h (k + 1) (e + c)) (turn_of nw nf o w g p a rest b)
     where
       after
           : ((l : List ℕ) (h : DistHit) (c : ℕ)
           → run_of nw nf o v f p fuel l h (k + 1) (e + c) ≡ run_of nw nf o w g p fuel l h (k + 1) (e + c))
           → (t : Turn)
-          → onTurn nw nf o v f p t (λ l h c. run_of nw nf o v f p fuel l h (k + 1) (e + c)) (searched b (k + 1) e false)
-          ≡ onTurn nw nf o w g p t (λ l h c. run_of nw nf o w g p fuel l h (k + 1) (e + c)) (searched b (k + 1) e false)
+          → on_turn nw nf o v f p t (λ l h c. run_of nw nf o v f p fuel l h (k + 1) (e + c)) (searched b (k + 1) e false)
+          ≡ on_turn nw nf o w g p t (λ l h c. run_of nw nf o w g p fuel l h (k + 1) (e + c)) (searched b (k + 1) e false)
       after go (on l h c) = go l h c
       after go full = refl
 
 -- ---- one tree, walked with two tables
 module _ (o v w : List ℕ) (f g : List Float) (p : Vec3)
     (same : (i : ℕ) → piece_in v f o i ≡ piece_in w g o i) where
-  visit-same : (t : Tree) (s : ℕ) (σ : Walk) → visit o v f p t s σ ≡ visit o w g p t s σ
+  visit_same : (t : Tree) (s : ℕ) (σ : Walk) → visit o v f p t s σ ≡ visit o w g p t s σ
   unfolding visit
-  visit-same (leaf b c) s σ = rw (leaf-same [] [] o v w f g p same)
-  visit-same (node b l r) s σ = rw (visit-same l, visit-same r, visit-same r, visit-same l)
+  visit_same (leaf b c) s σ = rw (leaf_same [] [] o v w f g p same)
+  visit_same (node b l r) s σ = rw (visit_same l, visit_same r, visit_same r, visit_same l)
 
 -- ---- two tables of nodes, alike where a tree of the boxes bs may stand
 -- the nodes at a tree's places alone say whether it stands there
@@ -104,8 +104,8 @@ stands_as v w f g at s (node b l r) same h = (
 
 module _ (v w : List ℕ) (f g : List Float) (o : List ℕ) (bs : List Aabb) (e : ℕ) (most : AtMost v f e)
     (same : (a : ℕ) → a < e → node_at v f a ≡ node_at w g a) where
-  accept-as : (t : Tree) → Accepted v f o bs t → Accepted w g o bs t
-  accept-as t h =
+  accept_as : (t : Tree) → Accepted v f o bs t → Accepted w g o bs t
+  accept_as t h =
       let few = most t h.holds.stands in
       record {
         holds = record {
@@ -117,10 +117,10 @@ module _ (v w : List ℕ) (f g : List Float) (o : List ℕ) (bs : List Aabb) (e 
         low = h.low;
       }
 
-  meets-as : MeetsRules v f o bs → MeetsRules w g o bs
+  meets_as : MeetsRules v f o bs → MeetsRules w g o bs
   unfolding MeetsRules
-  meets-as (inl none) = inl none
-  meets-as (inr h) = inr (h.0, accept-as h.0 h.1)
+  meets_as (inl none) = inl none
+  meets_as (inr h) = inr (h.0, accept_as h.0 h.1)
 
 -- numbers that are 0 together
 zero_same
@@ -137,39 +137,39 @@ module _ (v w : List ℕ) (f g : List Float) (o : List ℕ) (bs : List Aabb) (lo
   abbrev back : (a : ℕ) → a < e → node_at w g a ≡ node_at v f a
   back a h = sym (same a h)
 
-  stands-to : standing_number v f o bs ≡ 0 → standing_number w g o bs ≡ 0
-  stands-to z =
-      (standing-exact w g o bs long_w few).1
-      (meets-as v w f g o bs e most_v same ((standing-exact v f o bs long_v few).0 z))
+  stands_to : standing_number v f o bs ≡ 0 → standing_number w g o bs ≡ 0
+  stands_to z =
+      (standing_exact w g o bs long_w few).1
+      (meets_as v w f g o bs e most_v same ((standing_exact v f o bs long_v few).0 z))
 
   stands_from : standing_number w g o bs ≡ 0 → standing_number v f o bs ≡ 0
   stands_from z =
-      (standing-exact v f o bs long_v few).1
-      (meets-as w v g f o bs e most_w back ((standing-exact w g o bs long_w few).0 z))
+      (standing_exact v f o bs long_v few).1
+      (meets_as w v g f o bs e most_w back ((standing_exact w g o bs long_w few).0 z))
 
-  standing-as : standing_number v f o bs ≡ standing_number w g o bs
+  standing_as : standing_number v f o bs ≡ standing_number w g o bs
   unfolding standing_number
-  standing-as =
-      zero_same (is_good (judge_of 64 v f o bs)) (is_good (judge_of 64 w g o bs)) no_tree stands-to stands_from
+  standing_as =
+      zero_same (is_good (judge_of 64 v f o bs)) (is_good (judge_of 64 w g o bs)) no_tree stands_to stands_from
 
   -- tables x and y, with as many objects as there are boxes
   module _ (x y : List ℕ) (q r : List Float) (p : Vec3) (all-x : length bs ≡ count_of objects x)
       (all-y : length bs ≡ count_of objects y) (piece : (i : ℕ) → piece_in x q o i ≡ piece_in y r o i)
       (bound : DistHit) where
-    search-one : (t : Tree) → Accepted w g o bs t → searchOf v f o x q p bound ≡ searchOf w g o y r p bound
-    search-one t h =
-        search-walks v f o x q p long_v bs t (accept-as w v g f o bs e most_w back t h) few all-x bound
-        ∙ ap answer (visit-same o x y q r p piece t 0 (walk_from bound))
-        ∙ sym (search-walks w g o y r p long_w bs t h few all-y bound)
+    search_one : (t : Tree) → Accepted w g o bs t → search_of v f o x q p bound ≡ search_of w g o y r p bound
+    search_one t h =
+        search_walks v f o x q p long_v bs t (accept_as w v g f o bs e most_w back t h) few all-x bound
+        ∙ ap answer (visit_same o x y q r p piece t 0 (walk_from bound))
+        ∙ sym (search_walks w g o y r p long_w bs t h few all-y bound)
 
-    search-by : MeetsRules w g o bs → searchOf v f o x q p bound ≡ searchOf w g o y r p bound
+    search_by : MeetsRules w g o bs → search_of v f o x q p bound ≡ search_of w g o y r p bound
     unfolding MeetsRules
-    search-by (inl none) =
+    search_by (inl none) =
         search_empty v f o x q p bound (sym all-x ∙ none) ∙ sym (search_empty w g o y r p bound (sym all-y ∙ none))
-    search-by (inr h) = search-one h.0 h.1
+    search_by (inr h) = search_one h.0 h.1
 
-    search-as : standing_number w g o bs ≡ 0 → searchOf v f o x q p bound ≡ searchOf w g o y r p bound
-    search-as z = search-by ((standing-exact w g o bs long_w few).0 z)
+    search_as : standing_number w g o bs ≡ 0 → search_of v f o x q p bound ≡ search_of w g o y r p bound
+    search_as z = search_by ((standing_exact w g o bs long_w few).0 z)
 
 -- ---- the two tables of a call
 module _ (v w : List ℕ) (f g : List Float) (s : Same v w f g) where
@@ -179,31 +179,31 @@ module _ (v w : List ℕ) (f g : List Float) (s : Same v w f g) where
   abbrev number : ℕ
   number = standing_number (nodes_of w) (nodes_of g) (order_of w) bs
 
-  few-boxes : Trimmed v w f g → length bs ≤ 256
-  few-boxes t = omega (arith, t.few, box-count w g)
+  few_boxes : Trimmed v w f g → length bs ≤ 256
+  few_boxes t = omega (arith, t.few, box_count w g)
 
   Standing-by
       : ((nodes_of v ≡ nodes_of w) × (nodes_of f ≡ nodes_of g)) ⊎ Trimmed v w f g
       → standing_number (nodes_of v) (nodes_of f) (order_of w) bs ≡ number
   Standing-by (inl e) = rw (e.0, e.1)
   Standing-by (inr t) =
-      standing-as (nodes_of v) (nodes_of w) (nodes_of f) (nodes_of g) (order_of w) bs t.long_v t.long_w (few-boxes t)
+      standing_as (nodes_of v) (nodes_of w) (nodes_of f) (nodes_of g) (order_of w) bs t.long_v t.long_w (few_boxes t)
       t.e t.most_v t.most_w t.node
 
-  pub standing-same
+  pub standing_same
       : standing_number (nodes_of v) (nodes_of f) (order_of v) (boxes_of (plan_of v f))
       ≡ standing_number (nodes_of w) (nodes_of g) (order_of w) (boxes_of (plan_of w g))
-  standing-same = rw (s.plan, s.order) (Standing-by s.tree)
+  standing_same = rw (s.plan, s.order) (Standing-by s.tree)
 
-  search-same
+  search_same
       : ((nodes_of v ≡ nodes_of w) × (nodes_of f ≡ nodes_of g)) ⊎ Trimmed v w f g → number ≡ 0 → (p : Vec3) (b : DistHit)
-      → searchOf (nodes_of v) (nodes_of f) (order_of w) v f p b ≡ searchOf (nodes_of w) (nodes_of g) (order_of w) w g p b
-  unfolding searchOf
-  search-same (inl e) z p b =
-      rw (e.0, e.1, s.count, run-same (nodes_of w) (nodes_of g) (order_of w) v w f g p s.piece)
-  search-same (inr t) z p b =
-      search-as (nodes_of v) (nodes_of w) (nodes_of f) (nodes_of g) (order_of w) bs t.long_v t.long_w (few-boxes t)
-      t.e t.most_v t.most_w t.node v w f g p (box-count w g ∙ sym s.count) (box-count w g) s.piece b z
+      → search_of (nodes_of v) (nodes_of f) (order_of w) v f p b ≡ search_of (nodes_of w) (nodes_of g) (order_of w) w g p b
+  unfolding search_of
+  search_same (inl e) z p b =
+      rw (e.0, e.1, s.count, run_same (nodes_of w) (nodes_of g) (order_of w) v w f g p s.piece)
+  search_same (inr t) z p b =
+      search_as (nodes_of v) (nodes_of w) (nodes_of f) (nodes_of g) (order_of w) bs t.long_v t.long_w (few_boxes t)
+      t.e t.most_v t.most_w t.node v w f g p (box_count w g ∙ sym s.count) (box_count w g) s.piece b z
 
   pub hit_same
       : (tree : ℕ)
@@ -213,14 +213,14 @@ module _ (v w : List ℕ) (f g : List Float) (s : Same v w f g) where
   hit_same tree stands p b = go (eqb tree 1) refl
     where
       go : (x : Bool) → eqb tree 1 ≡ x → hit_by tree v f p b ≡ hit_by tree w g p b
-      go true e = rw (e, s.order) (search-same s.tree (stands (eqb-true tree 1 e)) p b)
+      go true e = rw (e, s.order) (search_same s.tree (stands (eqb-true tree 1 e)) p b)
       go false e = rw (e, s.plan, s.count)
 
-  pub field-same
+  pub field_same
       : (tree : ℕ)
       → (tree ≡ 1 → standing_number (nodes_of w) (nodes_of g) (order_of w) (boxes_of (plan_of w g)) ≡ 0)
       → (p : Vec3) → field_by tree v f p ≡ field_by tree w g p
   unfolding field_by
-  field-same tree stands p =
+  field_same tree stands p =
       ap (λ (x : Plan). (hit_by tree v f p (nearest x.planes p nothing)).hit) s.plan
       ∙ ap (λ (x : Searched). x.hit) (hit_same tree stands p (nearest (plan_of w g).planes p nothing))

@@ -32,13 +32,13 @@ module _ (o : List ℕ) (w : List ℕ) (f : List Float) (p : Vec3) where
         go true e = far (yes_of e)
         go false e = here
 
-    pub at-node
+    pub at_node
         : (b : Aabb) (l r : Tree) → (T (le σ.best.d (box_dist p b)) → P (skip o w f p (node b l r) s σ))
         → P (walk r (s + weight l) (walk l s (more o w f p σ))) → P
         (walk l s (walk r (s + weight l) (more o w f p σ)))
         → P (walk (node b l r) s σ)
     unfolding visit
-    at-node b l r far left right = go (le σ.best.d (box_dist p b)) refl (lt (near o w f p l) (near o w f p r))
+    at_node b l r far left right = go (le σ.best.d (box_dist p b)) refl (lt (near o w f p l) (near o w f p r))
       where
         go
             : (x : Bool) → le σ.best.d (box_dist p b) ≡ x → (y : Bool)
@@ -60,7 +60,7 @@ module _ (o : List ℕ) (w : List ℕ) (f : List Float) (p : Vec3) where
     keeps (node b l r) s σ h =
         let σ-l = walk l s (more o w f p σ) in
         let σ-r = walk r (s + weight l) (more o w f p σ) in
-        at-node P s σ b l r
+        at_node P s σ b l r
         (λ e. skips (node b l r) s σ e h)
         (keeps r (s + weight l) σ-l (keeps l s (more o w f p σ) (opens σ h)))
         (keeps l s σ-r (keeps r (s + weight l) (more o w f p σ) (opens σ h)))
@@ -70,11 +70,11 @@ module _ (o : List ℕ) (w : List ℕ) (f : List Float) (p : Vec3) where
     pub pops : σ'.popped ≤ σ.popped + size t
     pub evals : length σ'.seen ≤ length σ.seen + weight t
 
-  counts-then
+  counts_then
       : (b : Aabb) (l r x y : Tree) (σ τ υ : Walk) → size x + size y ≡ size l + size r
       → weight x + weight y ≡ weight l + weight r → Counts x (more o w f p σ) τ → Counts y τ υ → Counts
       (node b l r) σ υ
-  counts-then b l r x y σ τ υ e g h k =
+  counts_then b l r x y σ τ υ e g h k =
       record { pops = omega (arith, h.pops, k.pops); evals = omega (arith, h.evals, k.evals) }
 
   pub counts : (t : Tree) (s : ℕ) (σ : Walk) → Counts t σ (visit o w f p t s σ)
@@ -85,9 +85,9 @@ module _ (o : List ℕ) (w : List ℕ) (f : List Float) (p : Vec3) where
   counts (node b l r) s σ =
       let σ-l = walk l s (more o w f p σ) in
       let σ-r = walk r (s + weight l) (more o w f p σ) in
-      at-node (Counts (node b l r) σ) s σ b l r
+      at_node (Counts (node b l r) σ) s σ b l r
       (λ _. record { pops = omega arith; evals = omega arith })
-      (counts-then b l r l r σ σ-l (walk r (s + weight l) σ-l) refl refl (counts l s (more o w f p σ))
+      (counts_then b l r l r σ σ-l (walk r (s + weight l) σ-l) refl refl (counts l s (more o w f p σ))
       (counts r (s + weight l) σ-l))
-      (counts-then b l r r l σ σ-r (walk l s σ-r) (omega arith) (omega arith)
+      (counts_then b l r r l σ σ-r (walk l s σ-r) (omega arith) (omega arith)
       (counts r (s + weight l) (more o w f p σ)) (counts l s σ-r))

@@ -40,24 +40,24 @@ searched b k e whole = record { hit = b; popped = k; evaluated = e; whole = whol
 
 -- nodes nw and nf, order o, a plan's words w and f, and the point p
 module _ (nw : List ℕ) (nf : List Float) (o : List ℕ) (w : List ℕ) (f : List Float) (p : Vec3) where
-  unfoldable pub nodeDist : ℕ → Float
-  nodeDist a = box_dist p (node_at nw nf a).hull
+  unfoldable pub node_dist : ℕ → Float
+  node_dist a = box_dist p (node_at nw nf a).hull
 
   unfoldable pub pushed : ℕ → ℕ → List ℕ → List ℕ  -- the farther child first, the left one when equal
-  pushed l r rest = cond (lt (nodeDist l) (nodeDist r)) (l ∷ r ∷ rest) (r ∷ l ∷ rest)
+  pushed l r rest = cond (lt (node_dist l) (node_dist r)) (l ∷ r ∷ rest) (r ∷ l ∷ rest)
 
   unfoldable pub turn_of : ℕ → List ℕ → DistHit → Turn  -- a place past the table is popped and nothing more
   turn_of a rest b =
-      cond (le b.d (nodeDist a)) (on rest b 0)
+      cond (le b.d (node_dist a)) (on rest b 0)
       (cond (nat_lt a nodes_most)
       (cond ((node_at nw nf a).count == 0)
       (cond (nat_lt 62 (length rest)) full (on (pushed (a + 1) (node_at nw nf a).right rest) b 0))
       (on_scan rest (leaf_scan w f o p (node_at nw nf a).start (places_of (node_at nw nf a)) b)))
       (on rest b 0))
 
-  abbrev pub onTurn : Turn → (List ℕ → DistHit → ℕ → Searched) → Searched → Searched
-  onTurn (on rest b c) go stop = go rest b c
-  onTurn full go stop = stop
+  abbrev pub on_turn : Turn → (List ℕ → DistHit → ℕ → Searched) → Searched → Searched
+  on_turn (on rest b c) go stop = go rest b c
+  on_turn full go stop = stop
 
   -- at most `fuel` pops, with the stack of waiting nodes; not whole where the fuel or the room ran out
   unfoldable pub run_of : ℕ → List ℕ → DistHit → ℕ → ℕ → Searched
@@ -65,7 +65,7 @@ module _ (nw : List ℕ) (nf : List Float) (o : List ℕ) (w : List ℕ) (f : Li
   run_of zero (a ∷ rest) b k e = searched b k e false
   run_of (suc fuel) [] b k e = searched b k e true
   run_of (suc fuel) (a ∷ rest) b k e =
-      onTurn (turn_of a rest b) (λ l h c. run_of fuel l h (k + 1) (e + c)) (searched b (k + 1) e false)
+      on_turn (turn_of a rest b) (λ l h c. run_of fuel l h (k + 1) (e + c)) (searched b (k + 1) e false)
 
-  unfoldable pub searchOf : DistHit → Searched  -- with no objects nothing is popped
-  searchOf bound = cond (count_of objects w == 0) (searched bound 0 0 true) (run_of nodes_most (0 ∷ []) bound 0 0)
+  unfoldable pub search_of : DistHit → Searched  -- with no objects nothing is popped
+  search_of bound = cond (count_of objects w == 0) (searched bound 0 0 true) (run_of nodes_most (0 ∷ []) bound 0 0)

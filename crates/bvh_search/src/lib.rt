@@ -8,7 +8,7 @@ ghost use Rattle.scalar.specs.Extremes.{fmax};
 ghost use Rattle.root_tests.specs.Inside.Tests.{limit_of};
 ghost use Rattle.plan.specs.Nearest.{hit_of, closer};
 ghost use Rattle.bvh_rules.specs.Nodes.{nodes_most, nodes_of, order_of};
-ghost use Rattle.bvh_search.specs.Search.{piece_in, leaf_scan, places_of, run_of, searchOf};
+ghost use Rattle.bvh_search.specs.Search.{piece_in, leaf_scan, places_of, run_of, search_of};
 ghost use Rattle.bvh_search.specs.Field.{hit_by, field_by};
 ghost use Rattle.bvh_search.specs.Inside.Machine.{box_square, holding, ended, popping, next_of, scanned_of};
 ghost use Rattle.bvh_search.specs.Inside.Machine.{tables, square_at, squares_at};
@@ -406,7 +406,7 @@ fn search(
     p: Vec3,
     bound: DistHit,
 ) -> Searched
-    ensures { result ≡ searchOf (nodes_of ws.now) (nodes_of fs.now) (order_of ws.now)
+    ensures { result ≡ search_of (nodes_of ws.now) (nodes_of fs.now) (order_of ws.now)
         ws.now fs.now p bound }
 {
     if ws[plan::COUNT_OBJECTS] == 0 {

@@ -30,22 +30,22 @@ pub length_swapped : (i j : ℕ) (xs : List ℕ) → length (swapped i j xs) ≡
 length_swapped i j xs = perm_length (swapped_perm i j xs)
 
 module _ (bs : List Aabb) (g : Grid) (split : ℕ) where
-  part-perm : (n i mid : ℕ) (os : List ℕ) → Perm os (part_from bs g split n i mid os).order
+  part_perm : (n i mid : ℕ) (os : List ℕ) → Perm os (part_from bs g split n i mid os).order
   unfolding part_from
-  part-perm zero i mid os = Permᴰ.refl os
-  part-perm (suc n) i mid os = Permᴰ.trans (go (goes_left bs g split (get_or os i 0))) (part-perm n (i + 1) _ _)
+  part_perm zero i mid os = Permᴰ.refl os
+  part_perm (suc n) i mid os = Permᴰ.trans (go (goes_left bs g split (get_or os i 0))) (part_perm n (i + 1) _ _)
     where
       go : (b : Bool) → Perm os (cond b (swapped i mid os) os)
       go true = swapped_perm i mid os
       go false = Permᴰ.refl os
 
   -- no more go to the left than there are
-  part-mid : (n i mid : ℕ) (os : List ℕ) → mid ≤ i → (part_from bs g split n i mid os).mid ≤ i + n
+  part_mid : (n i mid : ℕ) (os : List ℕ) → mid ≤ i → (part_from bs g split n i mid os).mid ≤ i + n
   unfolding part_from
-  part-mid zero i mid os h = omega arith
-  part-mid (suc n) i mid os h =
+  part_mid zero i mid os h = omega arith
+  part_mid (suc n) i mid os h =
       let k = go (goes_left bs g split (get_or os i 0)) in
-      let r = part-mid n (i + 1) _ (cond (goes_left bs g split (get_or os i 0)) (swapped i mid os) os) k in
+      let r = part_mid n (i + 1) _ (cond (goes_left bs g split (get_or os i 0)) (swapped i mid os) os) k in
       omega arith
     where
       go : (b : Bool) → cond b (mid + 1) mid ≤ i + 1
@@ -68,18 +68,18 @@ evened_inside mid n l h = go (eqb mid 0) (eqb mid n) refl refl
 
 -- ---- the cut
 module _ (bs : List Aabb) (os : List ℕ) (c : Aabb) where
-  pub cut-once : Perm os (cut_of bs os c).order
+  pub cut_once : Perm os (cut_of bs os c).order
   unfolding cut_of parted
-  cut-once = part-perm bs (grid_of c) (split_of bs os c) (length os) 0 0 os
+  cut_once = part_perm bs (grid_of c) (split_of bs os c) (length os) 0 0 os
 
-  pub cut-length : length (cut_of bs os c).order ≡ length os
-  cut-length = perm_length cut-once
+  pub cut_length : length (cut_of bs os c).order ≡ length os
+  cut_length = perm_length cut_once
 
-  pub cut-mid : 4 < length os → (0 < (cut_of bs os c).mid) × ((cut_of bs os c).mid < length os)
+  pub cut_mid : 4 < length os → (0 < (cut_of bs os c).mid) × ((cut_of bs os c).mid < length os)
   unfolding cut_of parted
-  cut-mid h =
-      let l = part-mid bs (grid_of c) (split_of bs os c) (length os) 0 0 os (omega arith) in
+  cut_mid h =
+      let l = part_mid bs (grid_of c) (split_of bs os c) (length os) 0 0 os (omega arith) in
       evened_inside (part_from bs (grid_of c) (split_of bs os c) (length os) 0 0 os).mid (length os) (omega arith) h
 
   pub cut_all : (P : ℕ → Type 0) → Each P os → Each P (cut_of bs os c).order
-  cut_all P h = perm_all P cut-once h
+  cut_all P h = perm_all P cut_once h

@@ -53,13 +53,13 @@ module _ (bs : List Aabb) (g : Grid) (split n i : ℕ) where
       ap (λ (k : ℕ). part_from bs g split k i mid os) e
 
   -- by the test's outcome
-  part-more
+  part_more
       : (mid mid' : ℕ) (os os' : List ℕ) (b : Bool) (p : Parted) → i < n
       → goes_left bs g split (get_or os i 0) ≡ b
       → mid' ≡ cond b (mid + 1) mid → os' ≡ cond b (swapped i mid os) os → part_from bs g split
       (n - i) i mid os ≡ p
       → part_from bs g split (n - (i + 1)) (i + 1) mid' os' ≡ p
-  part-more mid mid' os os' b p h t m o q = rw (m, o, sym t) (sym (part_step mid os h) ∙ q)
+  part_more mid mid' os os' b p h t m o q = rw (m, o, sym t) (sym (part_step mid os h) ∙ q)
 
   pub part_none
       : (mid : ℕ) (os : List ℕ) (p : Parted) → n ≤ i → part_from bs g split (n - i) i mid os ≡ p
@@ -114,10 +114,10 @@ module _ (bs : List Aabb) (g : Grid) (split : ℕ) where
           → part_from bs g split (n - (i + 1)) (i + 1) mid' os' ≡ w
       go true q u =
           let z : one ≡ 1 = u ∙ ap (λ (b : Bool). cond b 1 0) q in
-          part-more bs g split n i mid mid' os os' true w h q (m ∙ ap (λ (x : ℕ). mid + x) z)
+          part_more bs g split n i mid mid' os os' true w h q (m ∙ ap (λ (x : ℕ). mid + x) z)
           (s ∙ ap (λ (x : ℕ). swapped i x os) (k1 z)) v
       go false q u =
           let z : one ≡ 0 = u ∙ ap (λ (b : Bool). cond b 1 0) q in
           let y : mid' ≡ mid = omega arith in
-          part-more bs g split n i mid mid' os os' false w h q y
+          part_more bs g split n i mid mid' os os' false w h q y
           (s ∙ ap (λ (x : ℕ). swapped i x os) (k0 z) ∙ swapped_self i os) v

@@ -85,8 +85,8 @@ module _ (B : RattleType) (n : ℕ) (Keeps : ℕ → B.Denot → Type 0) where
   abbrev pub Nearer : State → State → Type 0
   Nearer t u = n - t.i < n - u.i
 
-  pub nearer-wf : WellFounded Nearer
-  nearer-wf = InvImage.wf (λ (t : State). n - t.i) lt-wf_rel.wf
+  pub nearer_wf : WellFounded Nearer
+  nearer_wf = InvImage.wf (λ (t : State). n - t.i) lt-wf_rel.wf
 
 -- where light i of n lies is a word
 pub scaled : (n i : ℕ) → Room T.the_row n → i < n → i * 60 < 2 ^ 64
@@ -129,19 +129,19 @@ module _ (κ : Lft) (b o : ℕ) (γ : GName) (ys : List QuadLight) where
         split t $ move t (0 ∷ 2 ∷ []) $ s)
 
     -- a copy is opened, for the fractured borrow in it
-    pub light-out : K → Soaks G → {q : Share} (i : ℕ) → i < length ys
+    pub light_out : K → Soaks G → {q : Share} (i : ℕ) → i < length ys
         → ((q' : Share) → Is T.the_row (light i) (vals i) → Seq K 𝓛 (Opened q q' i Γ) G)
         → Seq K 𝓛 (‵ (flft κ q) ∷ ‵ Owned ∷ Γ) G
-    light-out t z i l k =
+    light_out t z i l k =
         twice t $ fsplit t $ drop t $ fsplit t $ drop t $
         looks_slice t z T.the_row (Is T.the_row) (shows 𝓛 T.the_row) (LL.vals T.the_type T'.the_laws)
         (LL.tells T.the_type T'.the_laws) (LL.copy T.the_type T'.the_copy 𝓛) ys b o (λ q'.
         elem_out t T.the_row (Is T.the_row) (shows 𝓛 T.the_row) (LL.vals T.the_type T'.the_laws)
         (LL.tells T.the_type T'.the_laws) q' ys i dark b o l (k q'))
 
-    pub light-back : K → Soaks G → {q : Share} (q' : Share) (i : ℕ) → i < length ys
+    pub light_back : K → Soaks G → {q : Share} (q' : Share) (i : ℕ) → i < length ys
         → Step K 𝓛 (‵ (flft κ q) ∷ ‵ Owned ∷ Γ) G (Opened q q' i Γ) G
-    light-back t z q' i l = step (λ s.
+    light_back t z q' i l = step (λ s.
         elem_back t T.the_row q' ys i dark (vals i) b o l $
         shuts_slice t z T.the_row q' ys b o $ move t (1 ∷ []) $ drop t $ s)
 
@@ -202,8 +202,8 @@ aimed_tells κs = (
 )
 
 module _ {M : Type 1} {𝓤 : Ura M} (𝓛 : Logic 𝓤) where
-  abbrev pub aimed-goes : AllGo 𝓛 1 aimed (yes, (yes, (yes, (yes, tt)))) aimed_stays
-  aimed-goes = (
+  abbrev pub aimed_goes : AllGo 𝓛 1 aimed (yes, (yes, (yes, (yes, tt)))) aimed_stays
+  aimed_goes = (
     Goes-none_slice 𝓛 1 (0 ∷ []) tt (plain (λ _. T.the_row)) yes,
     (
       Goes-none 𝓛 1 (λ _. P.the_row) yes (λ κs x f. refl),
@@ -217,11 +217,11 @@ module _ {M : Type 1} {𝓤 : Ura M} (𝓛 : Logic 𝓤) where
 module _ {M : Type 1} {𝓤 : Ura M} {𝓛 : Logic 𝓤} {K : Type 0}
     {Γ : List (Item 𝓤)} {G : Goal 𝓤 𝓛.H} where
   -- a ray is owned for nothing
-  pub ray-owned : K → (ro rd : Vec3) (tmax : Float) → Is P.the_row ro (vec ro ∷ [])
+  pub ray_owned : K → (ro rd : Vec3) (tmax : Float) → Is P.the_row ro (vec ro ∷ [])
       → Is P.the_row rd (vec rd ∷ []) → Is f32 tmax (float tmax ∷ [])
       → Step K 𝓛 (‵ (fsep ((P.the_row).own_val ro (vec ro ∷ [])) (fsep ((P.the_row).own_val rd (vec rd ∷ []))
       (fsep (f32.own_val tmax (float tmax ∷ [])) ftrue))) ∷ Γ) G Γ G
-  ray-owned t ro rd tmax go gd gt = step (λ s.
+  ray_owned t ro rd tmax go gd gt = step (λ s.
       nothing t $ owned t f32 (Is f32) (float_Makes 𝓛 binary32) tmax (float tmax ∷ []) gt $ fjoin t $
       owned t P.the_row (Is P.the_row) (LL.makes P.the_type P'.the_plain 𝓛) rd (vec rd ∷ []) gd $ fjoin t $
       owned t P.the_row (Is P.the_row) (LL.makes P.the_type P'.the_plain 𝓛) ro (vec ro ∷ []) go $

@@ -145,8 +145,8 @@ rounded_within f r p n c b v C a h =
 
 -- ---- sums, differences and products
 module _ (f : Format) (a b c : ℕ) (held : Exactly f c) (x y : Float) (wx : Bounded a x) (wy : Bounded b y) where
-  pub add-within : a + b ≤ c → Bounded c (add f x y)
-  add-within h =
+  pub add_within : a + b ≤ c → Bounded c (add f x y)
+  add_within h =
       rounded_within f (add f x y) _ _ (den x * den y) c held (mul-pos (den_pos x) (den_pos y))
       (add_rounded f x y wx.finite wy.finite)
       (total (credit x) (debit x) (den x) (credit y) (debit y) (den y) wx.size wy.size)
@@ -164,7 +164,7 @@ pub sub_within
     : (f : Format) (a b c : ℕ) → Exactly f c → (x y : Float) → Bounded a x → Bounded b y → a + b ≤ c
     → Bounded c (sub f x y)
 unfolding sub
-sub_within f a b c held x y wx wy h = add-within f a b c held x (neg y) wx (within_neg b y wy) h
+sub_within f a b c held x y wx wy h = add_within f a b c held x (neg y) wx (within_neg b y wy) h
 
 pub fmax_within : (b : ℕ) (x y : Float) → Bounded b x → Bounded b y → Bounded b (fmax x y)
 fmax_within b = fmax_either (Bounded b)

@@ -103,8 +103,8 @@ own f true m e = record { sign = true; size = m * up e; apart = omega arith; is 
 own f false m e = record { sign = false; size = m * up e; apart = omega arith; is = refl }
 
 module _ (f : Format) (x : Float) (held : T (fits f x)) (small : T (finite x)) (r : Float) (p n c : ℕ) (C : 0 < c) (is : Rounded f r p n c) where
-  pub rounded-le : p * den x + debit x * c ≤ credit x * c + n * den x → T (le r x)
-  rounded-le h = go x held small h
+  pub rounded_le : p * den x + debit x * c ≤ credit x * c + n * den x → T (le r x)
+  rounded_le h = go x held small h
     where
       go
           : (x : Float) → T (fits f x) → T (finite x) → p * den x + debit x * c ≤ credit x * c + n * den x
@@ -125,7 +125,7 @@ add_down f x (inf true) held small h =
 add_down f x (inf false) held small h = absurd (unfold le in h)
 add_down f x (fin s n e) held small h =
     let m = fin s n e in
-    rounded-le f x held small (add f x m) _ _ (den x * den m) (mul-pos (den_pos x) (den_pos m))
+    rounded_le f x held small (add f x m) _ _ (den x * den m) (mul-pos (den_pos x) (den_pos m))
     (add_rounded f x m small tt)
     (short (credit x) (debit x) (den x) (credit m) (debit m) (den m) (le→at_most m zero_f tt tt h))
   where

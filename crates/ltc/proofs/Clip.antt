@@ -62,22 +62,22 @@ module _ (q : Quad) where
   abbrev pub Alternating : Type 0
   Alternating = Alternate (above q.v0) (above q.v1) (above q.v2) (above q.v3)
 
-  all-counted : length (clipped q) ≡ edges (above q.v0) (above q.v1) (above q.v2) (above q.v3)
+  all_counted : length (clipped q) ≡ edges (above q.v0) (above q.v1) (above q.v2) (above q.v3)
   unfolding clipped edges
-  all-counted = simp (length-append, counted)
+  all_counted = simp (length-append, counted)
 
-  five-or-six-of : (length (clipped q) ≤ 5) ⊎ ((length (clipped q) ≡ 6) × Alternating)
-  five-or-six-of = rw all-counted (five_or_six (above q.v0) (above q.v1) (above q.v2) (above q.v3))
+  five_or_six_of : (length (clipped q) ≤ 5) ⊎ ((length (clipped q) ≡ 6) × Alternating)
+  five_or_six_of = rw all_counted (five_or_six (above q.v0) (above q.v1) (above q.v2) (above q.v3))
 
-  pub clip-five : length (clip_of q) ≤ 5
+  pub clip_five : length (clip_of q) ≤ 5
   unfolding clip_of
-  clip-five = omega (arith, length-take 5 (clipped q))
+  clip_five = omega (arith, length-take 5 (clipped q))
 
-  pub clipped-six : length (clipped q) ≤ 6
-  clipped-six = ⊎_elim (λ h. omega arith) (λ h. omega arith) five-or-six-of
+  pub clipped_six : length (clipped q) ≤ 6
+  clipped_six = ⊎_elim (λ h. omega arith) (λ h. omega arith) five_or_six_of
 
-  pub sixth-only : (5 < length (clipped q)) ↔ Alternating
-  sixth-only = (
-    λ m. ⊎_elim (λ h. absurd (omega arith)) (λ h. h.1) five-or-six-of,
-    λ e. rw (all-counted, e.0, e.1, e.2, alternating) (omega arith),
+  pub sixth_only : (5 < length (clipped q)) ↔ Alternating
+  sixth_only = (
+    λ m. ⊎_elim (λ h. absurd (omega arith)) (λ h. h.1) five_or_six_of,
+    λ e. rw (all_counted, e.0, e.1, e.2, alternating) (omega arith),
   )

@@ -12,7 +12,7 @@ use Rattle.vec.specs.declared.Vec3.{Vec3}
 use Rattle.refusals.specs.Prims.{shape_of}
 use Rattle.words.specs.Lists.{list_from}
 use Rattle.words.proofs.Laws.{past_end}
-use Rattle.words.proofs.Runs.{from-snoc}
+use Rattle.words.proofs.Runs.{from_snoc}
 use Rattle.plan.specs.declared.Cutter.{Cutter}
 use Rattle.plan.specs.declared.Head.{Head}
 use Rattle.plan.specs.declared.DistHit.{DistHit}
@@ -54,31 +54,31 @@ row_head w f i =
     }
 
 module _ (w : List ℕ) (f : List Float) where
-  pub carve-none : (r : ℕ) (p : Vec3) (d : Float) → d ≡ carve (cuts_by w f r 0) p d
+  pub carve_none : (r : ℕ) (p : Vec3) (d : Float) → d ≡ carve (cuts_by w f r 0) p d
   unfolding cuts_by list_from carve
-  carve-none r p d = refl
+  carve_none r p d = refl
 
-  pub carve-more
+  pub carve_more
       : (r j : ℕ) (p : Vec3) (d : Float)
       → carve (cuts_by w f r (j + 1)) p d ≡ cut_by (cutter_at w f (r + j)) p (carve (cuts_by w f r j) p d)
   unfolding cuts_by
-  carve-more r j p d = rw (add-one, from-snoc (cutter_at w f) r j, carve_snoc)
+  carve_more r j p d = rw (add-one, from_snoc (cutter_at w f) r j, carve_snoc)
 
-  pub nearest-none : (r : ℕ) (p : Vec3) (best : DistHit) → best ≡ nearest (pieces_from w f r 0) p best
+  pub nearest_none : (r : ℕ) (p : Vec3) (best : DistHit) → best ≡ nearest (pieces_from w f r 0) p best
   unfolding pieces_from list_from nearest
-  nearest-none r p best = refl
+  nearest_none r p best = refl
 
-  pub nearest-more
+  pub nearest_more
       : (r j : ℕ) (p : Vec3) (best : DistHit)
       → nearest (pieces_from w f r (j + 1)) p best ≡ closer (nearest (pieces_from w f r j) p best)
       (hit_of (piece_at w f (r + j)) p)
   unfolding pieces_from
-  nearest-more r j p best = rw (add-one, from-snoc (piece_at w f) r j, nearest_snoc)
+  nearest_more r j p best = rw (add-one, from_snoc (piece_at w f) r j, nearest_snoc)
 
   -- a row's places counted from its first, as the code reads them
-  pub head-row : (r : ℕ) → head_at w f r ≡ row_head w f (16 * r)
+  pub head_row : (r : ℕ) → head_at w f r ≡ row_head w f (16 * r)
   unfolding head_at
-  head-row r =
+  head_row r =
       let at : (k : ℕ) → 16 * r + 3 + k ≡ 16 * r + (3 + k) = λ k. omega arith in
       rw (at 1, at 2, at 3, at 4, at 5, at 6, at 7, at 8)
 
@@ -108,9 +108,9 @@ vec_past f l r k h =
     )
 
 module _ (w : List ℕ) (f : List Float) (lw : length w ≡ 27296) (lf : length f ≡ 27296) where
-  pub cutter-past : (r : ℕ) → 1706 ≤ r → cutter_at w f r ≡ record { kind = 0; shape = no_shape }
+  pub cutter_past : (r : ℕ) → 1706 ≤ r → cutter_at w f r ≡ record { kind = 0; shape = no_shape }
   unfolding cutter_at
-  cutter-past r h =
+  cutter_past r h =
       let i : ℕ = 16 * r in
       let qw = le_of_eq lw in
       let qf = le_of_eq lf in
@@ -126,9 +126,9 @@ module _ (w : List ℕ) (f : List Float) (lw : length w ≡ 27296) (lf : length 
         past_end f nan 27296 (i + 8) qf (omega arith),
       )
 
-  pub head-past : (r : ℕ) → 1706 ≤ r → head_at w f r ≡ no_head
+  pub head_past : (r : ℕ) → 1706 ≤ r → head_at w f r ≡ no_head
   unfolding head_at
-  head-past r h =
+  head_past r h =
       let i : ℕ = 16 * r in
       let qw = le_of_eq lw in
       let qf = le_of_eq lf in

@@ -12,19 +12,19 @@ use lib.Seq.{get_or-set_same, get_or-set_other}
 use lib.Ieee.{Float}
 use borrow.Author.Tests.{lt-ltb, le-leb}
 use Rattle.words.specs.Lists.{list_from, All}
-use Rattle.words.proofs.Runs.{from-snoc, length_from, All-from}
+use Rattle.words.proofs.Runs.{from_snoc, length_from, All-from}
 use Rattle.plan.specs.Sections.{materials, planes, lights, objects, args_row}
 use Rattle.plan.specs.Records.{word_of, material_at, light_at, light_in, cutter_at, head_at}
 use Rattle.plan.specs.Plan.{Piece, cuts_by, piece_at, pieces_from, count_of, plan_of, seen, plan_in}
 use Rattle.plan.specs.With.{with_material, with_plane, with_light, with_object}
-use Rattle.plan.proofs.Rows.{Alike, Kept, kept, material-same, light-same, materials-kept, lights-kept, pieces-Kept}
+use Rattle.plan.proofs.Rows.{Alike, Kept, kept, material_same, light_same, materials_kept, lights_kept, pieces-Kept}
 use Rattle.plan_test.specs.declared.Solids.{Solids}
 use Rattle.record_test.specs.Numbers.{material_number, light_number}
 use Rattle.plan_test.specs.Tests.{cutters_of, solids_of}
 use Rattle.record_test.specs.Exact.{CutterOk}
 use Rattle.plan_test.specs.Exact.{CountsOk, SoundSolids}
 use Rattle.plan_test.proofs.Apart.{objects_reach, planes_reach}
-use Rattle.plan_test.proofs.Exact.{counts_exact, solids-exact, solids-used}
+use Rattle.plan_test.proofs.Exact.{counts_exact, solids_exact, solids_used}
 use Rattle.plan_write.specs.Written.{arg_word, arg_cuts, piece_words, cutter_words}
 use Rattle.plan_entry.specs.Entry.{piece_number, record_number}
 use Rattle.plan_write.specs.Written.{first_word, record_words}
@@ -32,9 +32,9 @@ use Rattle.plan_write.specs.Written.{put_row, put_cutters, one_more, with_piece,
 use Rattle.plan_entry.specs.Entry.{new_place}
 use Rattle.plan_write.specs.Written.{with_light_words}
 use Rattle.plan_entry.specs.After.{given_piece, with_one}
-use Rattle.plan_write.proofs.Lists.{length_row, row_here, row_other, length-cutters, cutters-other}
-use Rattle.plan_write.proofs.Lists.{cutters-here}
-use Rattle.plan_entry.proofs.Given.{new-cutter, new-piece, new-record}
+use Rattle.plan_write.proofs.Lists.{length_row, row_here, row_other, length_cutters, cutters_other}
+use Rattle.plan_write.proofs.Lists.{cutters_here}
+use Rattle.plan_entry.proofs.Given.{new_cutter, new_piece, new_record}
 use Rattle.plan_entry.proofs.Accepts.{Accepted, accepted, taken}
 
 one_more_lem : (n : ℕ) → n < 256 → one_more n ≡ suc n
@@ -60,13 +60,13 @@ few w f c =
 
 module _ (w : List ℕ) (s : SoundSolids (plan_in w)) where
   -- the cutters of plane j lie from what the planes leave on
-  plane-place
+  plane_place
       : (j : ℕ)
       → j < count_of planes w
       → (1024 ≤ (head_at w (seen w) (65 + j)).place + cutters_of (plan_in w).planes)
       × ((head_at w (seen w) (65 + j)).place + (head_at w (seen w) (65 + j)).cutters ≤ 1024)
   unfolding plan_of pieces_from piece_at
-  plane-place =
+  plane_place =
       let used : ℕ = cutters_of (plan_in w).planes in
       All-from
       (λ (o : Piece). (1024 ≤ o.head.place + used) × (o.head.place + o.head.cutters ≤ 1024))
@@ -76,12 +76,12 @@ module _ (w : List ℕ) (s : SoundSolids (plan_in w)) where
       (planes_reach 0 used (plan_in w).planes s.planes.places (omega arith))
 
   -- the cutters of object j lie below what the objects use
-  object-place
+  object_place
       : (j : ℕ)
       → j < count_of objects w
       → (head_at w (seen w) (113 + j)).place + (head_at w (seen w) (113 + j)).cutters ≤ cutters_of (plan_in w).objects
   unfolding plan_of pieces_from piece_at
-  object-place =
+  object_place =
       let used : ℕ = cutters_of (plan_in w).objects in
       All-from
       (λ (o : Piece). o.head.place + o.head.cutters ≤ used)
@@ -125,27 +125,27 @@ module _ (w : List ℕ) (c x row place n : ℕ) (len : length w ≡ 27296) (lc :
   rows = put_row cut row (piece_words w place)
 
   length_cut : length cut ≡ 27296
-  length_cut = length-cutters w place n ∙ len
+  length_cut = length_cutters w place n ∙ len
 
-  length-rows : length rows ≡ 27296
-  length-rows = length_row cut row (piece_words w place) ∙ length_cut
+  length_rows : length rows ≡ 27296
+  length_rows = length_row cut row (piece_words w place) ∙ length_cut
 
   written : Written w (set rows c x) c x row place n
   written =
       record {
         rest =
             record {
-              count = get_or-set_same rows c x 0 (omega (arith, length-rows));
+              count = get_or-set_same rows c x 0 (omega (arith, length_rows));
               counts = λ i p q.
                   get_or-set_other rows c i x 0 q
                   ∙ row_other cut row (piece_words w place) i (omega arith) (inl (omega arith))
-                  ∙ cutters-other w place n i (inl (omega arith));
+                  ∙ cutters_other w place n i (inl (omega arith));
               row = λ r l a.
                   kept (set rows c x) w r
                   (λ k p.
                   get_or-set_other rows c (16 * r + k) x 0 (λ e. omega arith)
                   ∙ row_other cut row (piece_words w place) (16 * r + k) (omega arith) (beside row r k p a.0)
-                  ∙ cutters-other w place n (16 * r + k)
+                  ∙ cutters_other w place n (16 * r + k)
                   (⊎_elim (λ b. inl (omega arith)) (λ b. inr (omega arith)) a.1));
             };
         head = λ k p.
@@ -154,7 +154,7 @@ module _ (w : List ℕ) (c x row place n : ℕ) (len : length w ≡ 27296) (lc :
         cutter = λ j k p q.
             get_or-set_other rows c (16 * (369 + place + j) + k) x 0 (λ e. omega arith)
             ∙ row_other cut row (piece_words w place) (16 * (369 + place + j) + k) (omega arith) (inr (omega arith))
-            ∙ cutters-here w place n j k len fit p q;
+            ∙ cutters_here w place n j k len fit p q;
       }
 
 -- a cutter's kind is known
@@ -184,55 +184,55 @@ module _ (w v : List ℕ) (c x row place : ℕ) (among : Bool) (s : SoundSolids 
   new : piece_at v (seen v) row ≡ given_piece w place
   new =
       let eight = a.few in
-      new-piece v w row (omega arith) place (known_kind among w a) t.head
+      new_piece v w row (omega arith) place (known_kind among w a) t.head
       (λ k p.
-      new-cutter v w (369 + place + k) (omega arith) (1394 + k) (omega arith) (known_cutters w n a.cuts k p)
+      new_cutter v w (369 + place + k) (omega arith) (1394 + k) (omega arith) (known_cutters w n a.cuts k p)
       (λ i q. t.cutter k i p q))
 
-  planes-stay
+  planes_stay
       : ((j : ℕ) → j < count_of planes w → Beside row (65 + j))
       → pieces_from v (seen v) 65 (count_of planes w) ≡ pieces_from w (seen w) 65 (count_of planes w)
-  planes-stay h =
+  planes_stay h =
       pieces-Kept v w 65 (count_of planes w)
       (λ j p. let m = f.planes in t.rest.row (65 + j) (omega arith) (h j p, inl (omega arith)))
       (λ j p k q.
-      let at = (plane-place w s j p).0 in
+      let at = (plane_place w s j p).0 in
       let r : ℕ = 369 + (head_at w (seen w) (65 + j)).place + k in
       t.rest.row r (omega arith) (inr (omega arith), inr (omega arith)))
 
-  objects-stay
+  objects_stay
       : ((j : ℕ) → j < count_of objects w → Beside row (113 + j))
       → pieces_from v (seen v) 113 (count_of objects w) ≡ pieces_from w (seen w) 113 (count_of objects w)
-  objects-stay h =
+  objects_stay h =
       pieces-Kept v w 113 (count_of objects w)
       (λ j p. let m = f.objects in t.rest.row (113 + j) (omega arith) (h j p, inl (omega arith)))
       (λ j p k q.
-      let at = object-place w s j p in
+      let at = object_place w s j p in
       let r : ℕ = 369 + (head_at w (seen w) (113 + j)).place + k in
       t.rest.row r (omega arith) (inr (omega arith), inl (omega arith)))
 
-  materials-stay
+  materials_stay
       : list_from (material_at (seen v)) 1 (count_of materials w) ≡ list_from (material_at (seen w)) 1
       (count_of materials w)
-  materials-stay =
-      materials-kept v w (count_of materials w)
+  materials_stay =
+      materials_kept v w (count_of materials w)
       (λ j p. let m = f.materials in t.rest.row (1 + j) (omega arith) (inl (omega arith), inl (omega arith)))
 
-  lights-stay
+  lights_stay
       : ((l : ℕ) → l < count_of lights w → Beside row (81 + 2 * l))
       → list_from (light_in (seen v)) 0 (count_of lights w) ≡ list_from (light_in (seen w)) 0 (count_of lights w)
-  lights-stay h =
-      lights-kept v w (count_of lights w)
+  lights_stay h =
+      lights_kept v w (count_of lights w)
       (λ l p. let m = f.lights in t.rest.row (81 + 2 * l) (omega arith) (h l p, inl (omega arith)))
 
-  plane-entered
+  plane_entered
       : c ≡ 1
       → row ≡ 65 + count_of planes w
       → row < 81
       → x ≡ suc (count_of planes w)
       → plan_in v ≡ with_plane (plan_in w) (given_piece w place)
   unfolding plan_of pieces_from
-  plane-entered ec er lower ex =
+  plane_entered ec er lower ex =
       let m : ℕ = count_of planes w in
       let e0 : word_of v 0 ≡ word_of w 0 = t.rest.counts 0 (omega arith) (λ e. omega arith) in
       let e1 : word_of v 1 ≡ suc m = ap (word_of v) (sym ec) ∙ t.rest.count ∙ ex in
@@ -244,21 +244,21 @@ module _ (w v : List ℕ) (c x row place : ℕ) (among : Bool) (s : SoundSolids 
         e1,
         e2,
         e3,
-        from-snoc (piece_at v (seen v)) 65 m,
+        from_snoc (piece_at v (seen v)) 65 m,
         own,
-        planes-stay (λ j p. inl (omega arith)),
-        materials-stay,
-        lights-stay (λ l p. inr (omega arith)),
-        objects-stay (λ j p. inr (omega arith)),
+        planes_stay (λ j p. inl (omega arith)),
+        materials_stay,
+        lights_stay (λ l p. inr (omega arith)),
+        objects_stay (λ j p. inr (omega arith)),
       )
 
-  object-entered
+  object_entered
       : c ≡ 3
       → row ≡ 113 + count_of objects w
       → x ≡ suc (count_of objects w)
       → plan_in v ≡ with_object (plan_in w) (given_piece w place)
   unfolding plan_of pieces_from
-  object-entered ec er ex =
+  object_entered ec er ex =
       let m : ℕ = count_of objects w in
       let e0 : word_of v 0 ≡ word_of w 0 = t.rest.counts 0 (omega arith) (λ e. omega arith) in
       let e1 : word_of v 1 ≡ word_of w 1 = t.rest.counts 1 (omega arith) (λ e. omega arith) in
@@ -272,12 +272,12 @@ module _ (w v : List ℕ) (c x row place : ℕ) (among : Bool) (s : SoundSolids 
         e1,
         e2,
         e3,
-        from-snoc (piece_at v (seen v)) 113 m,
+        from_snoc (piece_at v (seen v)) 113 m,
         own,
-        objects-stay (λ j p. inl (omega arith)),
-        materials-stay,
-        lights-stay (λ l p. inl (omega arith)),
-        planes-stay (λ j p. inl (omega arith)),
+        objects_stay (λ j p. inl (omega arith)),
+        materials_stay,
+        lights_stay (λ l p. inl (omega arith)),
+        planes_stay (λ j p. inl (omega arith)),
       )
 
 -- ---- the place of a new piece
@@ -301,7 +301,7 @@ pub record Placed (among : Bool) (w : List ℕ) : Type 0 where
 
 pub placed_for : (among : Bool) (w : List ℕ) → Accepted among w → Placed among w
 placed_for true w a =
-    let u = solids-used (plan_in w) a.solids in
+    let u = solids_used (plan_in w) a.solids in
     let p = u.0 in
     let o = u.1 in
     let r = a.room in
@@ -314,7 +314,7 @@ placed_for true w a =
           (true≢false x);
     }
 placed_for false w a =
-    let u = solids-used (plan_in w) a.solids in
+    let u = solids_used (plan_in w) a.solids in
     let p = u.0 in
     let o = u.1 in
     let r = a.room in
@@ -335,7 +335,7 @@ pub piece_entered
 unfolding with_piece
 piece_entered before true w bytes len e =
     let a = accepted before true w bytes e in
-    let s = (solids-exact (plan_in w)).0 a.solids in
+    let s = (solids_exact (plan_in w)).0 a.solids in
     let m : ℕ = count_of planes w in
     let d = placed_for true w a in
     let h : m < 16 = a.count in
@@ -345,11 +345,11 @@ piece_entered before true w bytes len e =
     let x : ℕ = one_more m in
     let row : ℕ = 65 + m in
     let t = written w 1 x row at (arg_cuts w) len (omega arith) (omega arith) (omega arith) (omega arith) in
-    plane-entered w _ 1 x row at true s a (omega arith) (omega arith) below above t refl refl (omega arith)
+    plane_entered w _ 1 x row at true s a (omega arith) (omega arith) below above t refl refl (omega arith)
     (one_more_lem m (omega arith))
 piece_entered before false w bytes len e =
     let a = accepted before false w bytes e in
-    let s = (solids-exact (plan_in w)).0 a.solids in
+    let s = (solids_exact (plan_in w)).0 a.solids in
     let m : ℕ = count_of objects w in
     let d = placed_for false w a in
     let h : m < 256 = a.count in
@@ -359,7 +359,7 @@ piece_entered before false w bytes len e =
     let x : ℕ = one_more m in
     let row : ℕ = 113 + m in
     let t = written w 3 x row at (arg_cuts w) len (omega arith) (omega arith) (omega arith) (omega arith) in
-    object-entered w _ 3 x row at false s a (omega arith) (omega arith) below above t refl refl
+    object_entered w _ 3 x row at false s a (omega arith) (omega arith) below above t refl refl
     (one_more_lem m (omega arith))
 
 -- ---- a material, or a light: planes, objects and cutters stand elsewhere
@@ -367,14 +367,14 @@ abbrev Solid : ℕ → Type 0
 Solid r = ((65 ≤ r) × (r < 81)) ⊎ (113 ≤ r)
 
 module _ (w v : List ℕ) (f : Few w) (solid : (r : ℕ) → Solid r → Kept v w r) where
-  planes-keep : pieces_from v (seen v) 65 (count_of planes w) ≡ pieces_from w (seen w) 65 (count_of planes w)
-  planes-keep =
+  planes_keep : pieces_from v (seen v) 65 (count_of planes w) ≡ pieces_from w (seen w) 65 (count_of planes w)
+  planes_keep =
       pieces-Kept v w 65 (count_of planes w)
       (λ j p. let m = f.planes in solid (65 + j) (inl (omega arith, omega arith)))
       (λ j p k q. solid (369 + (head_at w (seen w) (65 + j)).place + k) (inr (omega arith)))
 
-  objects-keep : pieces_from v (seen v) 113 (count_of objects w) ≡ pieces_from w (seen w) 113 (count_of objects w)
-  objects-keep =
+  objects_keep : pieces_from v (seen v) 113 (count_of objects w) ≡ pieces_from w (seen w) 113 (count_of objects w)
+  objects_keep =
       pieces-Kept v w 113 (count_of objects w)
       (λ j p. solid (113 + j) (inr (omega arith)))
       (λ j p k q. solid (369 + (head_at w (seen w) (113 + j)).place + k) (inr (omega arith)))
@@ -393,17 +393,17 @@ module _ (w : List ℕ) (len : length w ≡ 27296) (few64 : count_of materials w
   abbrev mrows : List ℕ
   mrows = put_row w mrow (record_words w 5)
 
-  length-mrows : length mrows ≡ 27296
-  length-mrows = length_row w mrow (record_words w 5) ∙ len
+  length_mrows : length mrows ≡ 27296
+  length_mrows = length_row w mrow (record_words w 5) ∙ len
 
-  material-written : MaterialWritten w (set mrows 0 (one_more (count_of materials w)))
-  material-written =
+  material_written : MaterialWritten w (set mrows 0 (one_more (count_of materials w)))
+  material_written =
       let x : ℕ = one_more (count_of materials w) in
       let l : length (record_words w 5) ≤ 16 = omega (arith, record_length w 5) in
       record {
         rest =
             record {
-              count = get_or-set_same mrows 0 x 0 (omega (arith, length-mrows));
+              count = get_or-set_same mrows 0 x 0 (omega (arith, length_mrows));
               counts = λ i p q.
                   get_or-set_other mrows 0 i x 0 q ∙ row_other w mrow (record_words w 5) i l (inl (omega arith));
               row = λ r g a.
@@ -413,7 +413,7 @@ module _ (w : List ℕ) (len : length w ≡ 27296) (few64 : count_of materials w
                   ∙ row_other w mrow (record_words w 5) (16 * r + k) l (beside mrow r k p a));
             };
         own =
-            new-record (set mrows 0 x) w mrow (omega arith) 5 (omega arith)
+            new_record (set mrows 0 x) w mrow (omega arith) 5 (omega arith)
             (λ k p.
             get_or-set_other mrows 0 (16 * mrow + k) x 0 (λ e. omega arith)
             ∙ row_here w mrow (record_words w 5) k len (omega arith) (record_length w 5) p);
@@ -441,12 +441,12 @@ material_more w v f h t =
       e1,
       e2,
       e3,
-      from-snoc (material_at (seen v)) 1 m,
-      material-same t.own (omega arith),
-      materials-kept v w m (λ j p. s.row (1 + j) (omega arith) (inl (omega arith))),
-      lights-kept v w (count_of lights w) (λ l p. s.row (81 + 2 * l) (omega arith) (inr (omega arith))),
-      planes-keep w v f solid,
-      objects-keep w v f solid,
+      from_snoc (material_at (seen v)) 1 m,
+      material_same t.own (omega arith),
+      materials_kept v w m (λ j p. s.row (1 + j) (omega arith) (inl (omega arith))),
+      lights_kept v w (count_of lights w) (λ l p. s.row (81 + 2 * l) (omega arith) (inr (omega arith))),
+      planes_keep w v f solid,
+      objects_keep w v f solid,
     )
 
 pub material_entered
@@ -458,7 +458,7 @@ unfolding with_material_words
 material_entered before w len e =
     let t = taken before (material_number (material_at (seen w) args_row)) materials w e in
     let f = few w (seen w) ((counts_exact (plan_in w)).0 t.counts) in
-    material_more w _ f t.count (material-written w len t.count)
+    material_more w _ f t.count (material_written w len t.count)
 
 record LightWritten (w v : List ℕ) : Type 0 where
   rest
@@ -476,18 +476,18 @@ module _ (w : List ℕ) (len : length w ≡ 27296) (few16 : count_of lights w < 
   abbrev lrows : List ℕ
   lrows = put_row lrow1 (lrow + 1) (record_words w 0)
 
-  length-lrows : length lrows ≡ 27296
-  length-lrows = length_row lrow1 (lrow + 1) (record_words w 0) ∙ length_row w lrow (record_words w 15) ∙ len
+  length_lrows : length lrows ≡ 27296
+  length_lrows = length_row lrow1 (lrow + 1) (record_words w 0) ∙ length_row w lrow (record_words w 15) ∙ len
 
-  light-written : LightWritten w (set lrows 2 (one_more (count_of lights w)))
-  light-written =
+  light_written : LightWritten w (set lrows 2 (one_more (count_of lights w)))
+  light_written =
       let x : ℕ = one_more (count_of lights w) in
       let l : length (record_words w 15) ≤ 16 = omega (arith, record_length w 15) in
       let l' : length (record_words w 0) ≤ 16 = omega (arith, record_length w 0) in
       record {
         rest =
             record {
-              count = get_or-set_same lrows 2 x 0 (omega (arith, length-lrows));
+              count = get_or-set_same lrows 2 x 0 (omega (arith, length_lrows));
               counts = λ i p q.
                   get_or-set_other lrows 2 i x 0 q
                   ∙ row_other lrow1 (lrow + 1) (record_words w 0) i l' (inl (omega arith))
@@ -502,7 +502,7 @@ module _ (w : List ℕ) (len : length w ≡ 27296) (few16 : count_of lights w < 
                   (⊎_elim (λ b. inl (omega arith)) (λ b. inr (omega arith)) a));
             };
         own =
-            new-record (set lrows 2 x) w lrow (omega arith) 15 (omega arith)
+            new_record (set lrows 2 x) w lrow (omega arith) 15 (omega arith)
             (λ k p.
             get_or-set_other lrows 2 (16 * lrow + k) x 0 (λ e. omega arith)
             ∙ row_other lrow1 (lrow + 1) (record_words w 0) (16 * lrow + k) l' (inl (omega arith))
@@ -532,14 +532,14 @@ light_more w v f h t =
       e1,
       e2,
       e3,
-      from-snoc (light_in (seen v)) 0 m,
+      from_snoc (light_in (seen v)) 0 m,
       z,
-      light-same t.own (omega arith),
-      lights-kept v w m (λ l p. s.row (81 + 2 * l) (omega arith) (inl (omega arith))),
-      materials-kept v w (count_of materials w)
+      light_same t.own (omega arith),
+      lights_kept v w m (λ l p. s.row (81 + 2 * l) (omega arith) (inl (omega arith))),
+      materials_kept v w (count_of materials w)
           (λ j p. let few64 = f.materials in s.row (1 + j) (omega arith) (inl (omega arith))),
-      planes-keep w v f solid,
-      objects-keep w v f solid,
+      planes_keep w v f solid,
+      objects_keep w v f solid,
     )
 
 pub light_entered
@@ -551,7 +551,7 @@ unfolding with_light_words
 light_entered before w len e =
     let t = taken before (light_number (light_at (seen w) args_row)) lights w e in
     let f = few w (seen w) ((counts_exact (plan_in w)).0 t.counts) in
-    light_more w _ f t.count (light-written w len t.count)
+    light_more w _ f t.count (light_written w len t.count)
 
 -- ---- other words after the plan
 pub plan_relent
@@ -568,17 +568,17 @@ plan_relent w v s h =
       h 1 (omega arith),
       h 2 (omega arith),
       h 3 (omega arith),
-      materials-kept v w (count_of materials w) (λ j p. let m = f.materials in row (1 + j) (omega arith)),
-      lights-kept v w (count_of lights w) (λ l p. let m = f.lights in row (81 + 2 * l) (omega arith)),
+      materials_kept v w (count_of materials w) (λ j p. let m = f.materials in row (1 + j) (omega arith)),
+      lights_kept v w (count_of lights w) (λ l p. let m = f.lights in row (81 + 2 * l) (omega arith)),
       pieces-Kept v w 65 (count_of planes w)
           (λ j p. let m = f.planes in row (65 + j) (omega arith))
           (λ j p k q.
-          let at = (plane-place w s j p).1 in
+          let at = (plane_place w s j p).1 in
           row (369 + (head_at w (seen w) (65 + j)).place + k) (omega arith)),
       pieces-Kept v w 113 (count_of objects w)
           (λ j p. let m = f.objects in row (113 + j) (omega arith))
           (λ j p k q.
-          let at = object-place w s j p in
+          let at = object_place w s j p in
           let room = s.room in
           row (369 + (head_at w (seen w) (113 + j)).place + k) (omega arith)),
     )

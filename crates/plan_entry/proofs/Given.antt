@@ -13,7 +13,7 @@ use borrow.Author.Tests.{lt-ltb}
 use Rattle.sdf.specs.declared.Shape.{Shape}
 use Rattle.refusals.specs.Prims.{shape_of}
 use Rattle.words.specs.Lists.{list_from}
-use Rattle.words.proofs.Runs.{from-same, getD-from}
+use Rattle.words.proofs.Runs.{from_same, get_d_from}
 use Rattle.plan.specs.declared.Head.{Head}
 use Rattle.plan.specs.Sections.{args_row}
 use Rattle.plan.specs.Records.{word_of, float_of, prim_of, cutter_at, head_at}
@@ -166,14 +166,14 @@ module _ (v w : List ℕ) (r : ℕ) (low : r < 1706) where
   first : (words : List ℕ) → Has words → word_of v (16 * r) ≡ get_or words 0 0
   first words h = ap (λ (x : ℕ). word_of v x) (sym (add-zero (16 * r))) ∙ h 0 (omega arith)
 
-  pub new-cutter
+  pub new_cutter
       : (a : ℕ)
       → a < 1706
       → word_of w (16 * a) ≤ 6
       → Has (cutter_words w a)
       → cutter_at v (seen v) r ≡ cutter_at w (seen w) a
   unfolding cutter_at
-  new-cutter a la known h =
+  new_cutter a la known h =
       let kind : word_of v (16 * r) ≡ word_of w (16 * a) = first (cutter_words w a) h in
       let at : (k : ℕ) → k < 8 → get_or (cutter_words w a) (1 + k) 0 ≡ used_word w (16 * a + 1)
       (word_of w (16 * a)) k
@@ -183,13 +183,13 @@ module _ (v w : List ℕ) (r : ℕ) (low : r < 1706) where
       = λ k p. ap (λ (x : ℕ). word_of v x) (omega arith) ∙ h (1 + k) (omega arith) ∙ at k p in
       rw (prim_used v w (16 * r) (16 * a) (omega arith) (omega arith) known kind eight, kind)
 
-  new-head
+  new_head
       : (place : ℕ)
       → arg_word w 3 ≤ 6
       → Has (piece_words w place)
       → head_at v (seen v) r ≡ placed (head_at w (seen w) args_row) place
   unfolding head_at
-  new-head place known h =
+  new_head place known h =
       let blend : float_of (seen v) (16 * r + 1) ≡ float_of (seen w) 22289
       = float_of_lem v (16 * r + 1) (omega arith) ∙ rw (h 1 (omega arith)) (sym (float_of_lem w 22289 (omega arith))) in
       let at : (k : ℕ) → k < 8 → get_or (piece_words w place) (4 + k) 0 ≡ used_word w 22292 (word_of w 22291) k
@@ -209,24 +209,24 @@ module _ (v w : List ℕ) (r : ℕ) (low : r < 1706) where
       )
 
   -- its cutters from row 369 + place on
-  pub new-piece
+  pub new_piece
       : (place : ℕ)
       → arg_word w 3 ≤ 6
       → Has (piece_words w place)
       → ((k : ℕ) → k < arg_cuts w → cutter_at v (seen v) (369 + place + k) ≡ cutter_at w (seen w) (1394 + k))
       → piece_at v (seen v) r ≡ given_piece w place
   unfolding given_piece cuts_by head_at
-  new-piece place known h cutters =
+  new_piece place known h cutters =
       piece_from v (seen v) r (placed (head_at w (seen w) args_row) place) (cuts_by w (seen w) 1394 (arg_cuts w))
-      (new-head place known h)
-      (from-same (cutter_at v (seen v)) (cutter_at w (seen w)) (369 + place) 1394 (arg_cuts w) cutters)
+      (new_head place known h)
+      (from_same (cutter_at v (seen v)) (cutter_at w (seen w)) (369 + place) 1394 (arg_cuts w) cutters)
 
   -- the first n words of the arguments, in a row of their own
-  pub new-record : (n : ℕ) → n ≤ 16 → Has (record_words w n) → Alike n v w (seen v) (seen w) r args_row
+  pub new_record : (n : ℕ) → n ≤ 16 → Has (record_words w n) → Alike n v w (seen v) (seen w) r args_row
   unfolding first_word
-  new-record n l h =
+  new_record n l h =
       moved n v w r args_row l low (omega arith)
       (λ k p.
       h k (omega arith)
-      ∙ getD-from (first_word w n) 0 16 k 0 (omega arith)
+      ∙ get_d_from (first_word w n) 0 16 k 0 (omega arith)
       ∙ (let z : 0 + k ≡ k = omega arith in rw (z, lt-ltb k n p)))

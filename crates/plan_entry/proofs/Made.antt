@@ -17,11 +17,11 @@ use Rattle.record_test.specs.Numbers.{material_number, light_number}
 use Rattle.plan_test.specs.Tests.{cutters_of, solids_of, lit_number}
 use Rattle.plan_test.specs.Exact.{PieceOk, PlaceIs, SoundLit}
 use Rattle.record_test.proofs.Numbers.{light_exact}
-use Rattle.plan_test.proofs.Exact.{solids-exact, lit-exact}
+use Rattle.plan_test.proofs.Exact.{solids_exact, lit_exact}
 use Rattle.plan_write.specs.Written.{arg_cuts, section_of, record_words, piece_words, put_row, put_cutters, one_more}
 use Rattle.plan_write.specs.Written.{with_piece, with_material_words, with_light_words}
 use Rattle.plan_entry.specs.After.{given_piece, list_of, Made, empty, relent, piece, material, light}
-use Rattle.plan_write.proofs.Lists.{length_row, length-cutters}
+use Rattle.plan_write.proofs.Lists.{length_row, length_cutters}
 use Rattle.plan_entry.proofs.Accepts.{Accepted, accepted, taken}
 use Rattle.plan_entry.proofs.Sound.{Fits, piece_lit, material_lit, light_lit}
 use Rattle.plan_entry.proofs.Entered.{place_for, Placed, placed_for, piece_entered, material_entered}
@@ -35,7 +35,7 @@ length_piece among w place =
     let row : ℕ = (section_of among).first + count_of (section_of among) w in
     length-set (put_row cut row (piece_words w place)) (section_of among).count (one_more (count_of (section_of among) w))
     ∙ length_row cut row (piece_words w place)
-    ∙ length-cutters w place (arg_cuts w)
+    ∙ length_cutters w place (arg_cuts w)
 
 length_material : (w : List ℕ) → length (with_material_words w) ≡ length w
 unfolding with_material_words
@@ -190,7 +190,7 @@ good (light w m e) =
     }
 
 pub made_sound : {w : List ℕ} → Made w → (solids_of (plan_in w)).number ≡ 0
-made_sound {w} m = (solids-exact (plan_in w)).1 (good m).sound.solids
+made_sound {w} m = (solids_exact (plan_in w)).1 (good m).sound.solids
 
 pub made_lit : {w : List ℕ} → Made w → lit_number (plan_in w) ≡ 0
-made_lit {w} m = (lit-exact (plan_in w)).1 (good m).sound
+made_lit {w} m = (lit_exact (plan_in w)).1 (good m).sound

@@ -22,26 +22,26 @@ use Rattle.plan.specs.declared.DistHit.{DistHit}
 use Rattle.plan.specs.Records.{cutter_at}
 use Rattle.plan.specs.Plan.{Cuts, Piece, cuts_by}
 use Rattle.plan.specs.Nearest.{cut_by, carve, piece_dist, hit_of, closer}
-use Rattle.plan.proofs.Lists.{carve-more}
+use Rattle.plan.proofs.Lists.{carve_more}
 
 -- ---- the bound t, the distance d, and what was worked out
 module _ (t d r : Float) where
-  pub near-far : Near t d r → T (le t r) → T (le t d)
-  near-far (inl e) h = subst (λ (z : Float). T (le t z)) e h
-  near-far (inr q) h = q.1
+  pub near_far : Near t d r → T (le t r) → T (le t d)
+  near_far (inl e) h = subst (λ (z : Float). T (le t z)) e h
+  near_far (inr q) h = q.1
 
-  pub near-is : Near t d r → le t r ≡ false → r ≡ d
-  near-is (inl e) k = e
-  near-is (inr q) k =
+  pub near_is : Near t d r → le t r ≡ false → r ≡ d
+  near_is (inl e) k = e
+  near_is (inr q) k =
       absurd (not_of k (subst (λ (z : Float). T (le t z)) (sym q.0) (le_refl t (le_left t d q.1))))
 
-  pub near-below : Near t d r → lt r t ≡ true → r ≡ d
-  near-below (inl e) k = e
-  near-below (inr q) k = absurd (lt_irrefl t (subst (λ (z : Float). T (lt z t)) q.0 (yes_of k)))
+  pub near_below : Near t d r → lt r t ≡ true → r ≡ d
+  near_below (inl e) k = e
+  near_below (inr q) k = absurd (lt_irrefl t (subst (λ (z : Float). T (lt z t)) q.0 (yes_of k)))
 
-  pub near-over : Near t d r → lt r t ≡ false → lt d t ≡ false
-  near-over (inl e) k = subst (λ (z : Float). lt z t ≡ false) e k
-  near-over (inr q) k = is_not (λ l. lt_not_le d t l q.1)
+  pub near_over : Near t d r → lt r t ≡ false → lt d t ≡ false
+  near_over (inl e) k = subst (λ (z : Float). lt z t ≡ false) e k
+  near_over (inr q) k = is_not (λ l. lt_not_le d t l q.1)
 
 -- ---- cutters
 -- a cutter farther than -left leaves `left`
@@ -81,15 +81,15 @@ module _ (w : List ℕ) (f : List Float) (r : ℕ) (p : Vec3) (t d : Float) wher
       none j = omega arith
   more j (suc k) h =
       subst (λ (n : ℕ). T (le t (carve (cuts_by w f r n) p d))) (one j k)
-      (subst (λ (z : Float). T (le t z)) (sym (carve-more w f r (j + k) p d))
+      (subst (λ (z : Float). T (le t z)) (sym (carve_more w f r (j + k) p d))
       (cut_least (carve (cuts_by w f r (j + k)) p d) (neg (dist_of (cutter_at w f (r + (j + k))).shape p)) t
       (more j k h)))
     where
       one : (j k : ℕ) → j + k + 1 ≡ j + suc k
       one j k = omega arith
 
-  pub carve-stops : (j n : ℕ) → j ≤ n → T (le t (carve (cuts_by w f r j) p d)) → T (le t (carve (cuts_by w f r n) p d))
-  carve-stops j n h l = subst (λ (n : ℕ). T (le t (carve (cuts_by w f r n) p d))) (whole j n h) (more j (n - j) l)
+  pub carve_stops : (j n : ℕ) → j ≤ n → T (le t (carve (cuts_by w f r j) p d)) → T (le t (carve (cuts_by w f r n) p d))
+  carve_stops j n h l = subst (λ (n : ℕ). T (le t (carve (cuts_by w f r n) p d))) (whole j n h) (more j (n - j) l)
     where
       whole : (j n : ℕ) → j ≤ n → j + (n - j) ≡ n
       whole j n h = omega arith
@@ -120,9 +120,9 @@ choice o p best d n = at (lt d best.d) refl
     at : (b : Bool) → lt d best.d ≡ b
         → cond b (record { d = d; mat = o.head.material }) best ≡ closer best (hit_of o p)
     at true e =
-        let s : d ≡ piece_dist o p = near-below best.d (piece_dist o p) d n e in
+        let s : d ≡ piece_dist o p = near_below best.d (piece_dist o p) d n e in
         ap (λ (z : Float). hit_at o.head.material z) s
         ∙ sym (is_closer best (hit_at o.head.material (piece_dist o p))
         (subst (λ (z : Float). lt z best.d ≡ true) s e))
     at false e =
-        sym (no_closer best (hit_at o.head.material (piece_dist o p)) (near-over best.d (piece_dist o p) d n e))
+        sym (no_closer best (hit_at o.head.material (piece_dist o p)) (near_over best.d (piece_dist o p) d n e))

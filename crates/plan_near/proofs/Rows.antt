@@ -27,8 +27,8 @@ use Rattle.plan.specs.Inside.None.{no_shape}
 use Rattle.plan.specs.Inside.Rows.{shape_in}
 use Rattle.plan.specs.Plan.{cuts_by, piece_at}
 use Rattle.plan.specs.Nearest.{cut_by, carve, piece_dist, hit_of, closer}
-use Rattle.plan.proofs.Lists.{row_head, head-row, head_shape, cutter_shape, head-past, cutter-past}
-use Rattle.plan_near.proofs.Near.{near-far, near-is, cut_near, no_closer, passed, choice}
+use Rattle.plan.proofs.Lists.{row_head, head_row, head_shape, cutter_shape, head_past, cutter_past}
+use Rattle.plan_near.proofs.Near.{near_far, near_is, cut_near, no_closer, passed, choice}
 
 -- a kind that is none of the others
 pub cone_kind
@@ -44,11 +44,11 @@ pub dist_row
     → piece_dist (piece_at w f r) p
     ≡ carve (cuts_by w f (369 + word_of w (16 * r + 12)) (word_of w (16 * r + 2))) p (dist_of (row_head w f (16 * r)).shape p)
 unfolding piece_dist piece_at
-dist_row w f r p = rw (head-row w f r)
+dist_row w f r p = rw (head_row w f r)
 
 mat_row : (w : List ℕ) (f : List Float) (r : ℕ) → (piece_at w f r).head.material ≡ word_of w (16 * r)
 unfolding piece_at
-mat_row w f r = rw (head-row w f r)
+mat_row w f r = rw (head_row w f r)
 
 pub cut_row
     : (w : List ℕ) (f : List Float) (r : ℕ) (p : Vec3) (left t d : Float)
@@ -65,21 +65,21 @@ module _ (w : List ℕ) (f : List Float) (r : ℕ) (p : Vec3) (t whole : Float)
   n : Near t (dist_of (row_head w f (16 * r)).shape p) whole
   n = subst (λ (s : Shape). Near t (dist_of s p) whole) (head_shape w f (16 * r)) o
 
-  pub row-passed : le t whole ≡ true → T (le t (piece_dist (piece_at w f r) p))
+  pub row_passed : le t whole ≡ true → T (le t (piece_dist (piece_at w f r) p))
   unfolding piece_at
-  row-passed e =
-      passed (piece_at w f r) p t (rw (head-row w f r)
-      (near-far t (dist_of (row_head w f (16 * r)).shape p) whole n (yes_of e)))
+  row_passed e =
+      passed (piece_at w f r) p t (rw (head_row w f r)
+      (near_far t (dist_of (row_head w f (16 * r)).shape p) whole n (yes_of e)))
 
-  pub row-carved
+  pub row_carved
       : le t whole ≡ false → (d : Float)
       → Near t (carve (cuts_by w f (369 + word_of w (16 * r + 12)) (word_of w (16 * r + 2))) p whole) d
       → Near t (piece_dist (piece_at w f r) p) d
-  row-carved e d k =
+  row_carved e d k =
       rw (dist_row w f r p)
       (subst
       (λ (z : Float). Near t (carve (cuts_by w f (369 + word_of w (16 * r + 12)) (word_of w (16 * r + 2))) p z) d)
-      (near-is t (dist_of (row_head w f (16 * r)).shape p) whole n e) k)
+      (near_is t (dist_of (row_head w f (16 * r)).shape p) whole n e) k)
 
 -- ---- a plane that nothing cuts
 pub plane_row
@@ -112,15 +112,15 @@ unfolding fmax neg lt eq
 no_cut x = refl
 
 module _ (w : List ℕ) (f : List Float) (lw : length w ≡ 27296) (lf : length f ≡ 27296) (r : ℕ) (h : 1706 ≤ r) where
-  pub piece-past : (p : Vec3) (best : DistHit) → closer best (hit_of (piece_at w f r) p) ≡ best
+  pub piece_past : (p : Vec3) (best : DistHit) → closer best (hit_of (piece_at w f r) p) ≡ best
   unfolding hit_of piece_dist piece_at cuts_by list_from carve
-  piece-past p best =
+  piece_past p best =
       no_closer best (hit_of (piece_at w f r) p)
-      (rw (head-past w f lw lf r h, no_dist p) (no_less best.d))
+      (rw (head_past w f lw lf r h, no_dist p) (no_less best.d))
 
-  pub cutter-none : (p : Vec3) (left : Float) → cut_by (cutter_at w f r) p left ≡ left
+  pub cutter_none : (p : Vec3) (left : Float) → cut_by (cutter_at w f r) p left ≡ left
   unfolding cut_by
-  cutter-none p left = rw (cutter-past w f lw lf r h, no_dist p) (no_cut left)
+  cutter_none p left = rw (cutter_past w f lw lf r h, no_dist p) (no_cut left)
 
 -- ---- the nearer of the best hit and the piece in row r, whether there is one or not
 pub row_nearer
@@ -130,7 +130,7 @@ pub row_nearer
     → h ≡ closer best (hit_of (piece_at w f r) p)
 row_nearer w f lw lf r p best d n h q =
     elim (dec_le 1706 r) [
-      | yes g ↦ q.1 g ∙ sym (piece-past w f lw lf r g p best)
+      | yes g ↦ q.1 g ∙ sym (piece_past w f lw lf r g p best)
       | no g ↦
           let k : r < 1706 = omega (arith, g) in
           q.0 k

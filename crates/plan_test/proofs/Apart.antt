@@ -67,17 +67,17 @@ EndsBefore a b = a.head.place + a.head.cutters ≤ b.head.place
 
 -- a stands before b
 module _ (a b : Piece) (xs ys zs : List Piece) where
-  pub objects-apart
+  pub objects_apart
       : (p : Plan) → SoundObjects p → p.objects ≡ xs ++ (a ∷ (ys ++ (b ∷ zs))) → EndsBefore a b
-  objects-apart p s e =
+  objects_apart p s e =
       let q = places_after false 0 xs (a ∷ (ys ++ (b ∷ zs))) (rw e at s.objects.places) in
       let t = places_after false (0 + cutters_of xs + a.head.cutters) ys (b ∷ zs) q.1 in
       let here = q.0 in
       let there = t.0 in
       omega arith
 
-  pub planes-apart : (p : Plan) → SoundSolids p → p.planes ≡ xs ++ (a ∷ (ys ++ (b ∷ zs))) → EndsBefore b a
-  planes-apart p s e =
+  pub planes_apart : (p : Plan) → SoundSolids p → p.planes ≡ xs ++ (a ∷ (ys ++ (b ∷ zs))) → EndsBefore b a
+  planes_apart p s e =
       let q = places_after true 0 xs (a ∷ (ys ++ (b ∷ zs))) (rw e at s.planes.places) in
       let t = places_after true (0 + cutters_of xs + a.head.cutters) ys (b ∷ zs) q.1 in
       let here = q.0 in

@@ -10,7 +10,7 @@ use lib.Dec.{leb, eqb}
 use borrow.Author.Tests.{leb-true, eqb-true, le-leb, eq-eqb}
 use Rattle.words.specs.Lists.{All}
 use Rattle.refusals.specs.Refusals.{no_room, lower, lowest_of}
-use Rattle.refusals.proofs.Lowest.{cond_zero, lower_zero, lowest-exact}
+use Rattle.refusals.proofs.Lowest.{cond_zero, lower_zero, lowest_exact}
 use Rattle.plan.specs.declared.Head.{Head}
 use Rattle.plan.specs.Plan.{Piece, Plan}
 use Rattle.plan_test.specs.declared.Solids.{Solids}
@@ -117,37 +117,37 @@ module _ (p : Plan) where
   abbrev m : ℕ
   m = length p.materials
 
-  abbrev planesUsed : ℕ
-  planesUsed = cutters_of p.planes
+  abbrev planes_used : ℕ
+  planes_used = cutters_of p.planes
 
-  abbrev objectsUsed : ℕ
-  objectsUsed = cutters_of p.objects
+  abbrev objects_used : ℕ
+  objects_used = cutters_of p.objects
 
-  abbrev planeCuts : ℕ
-  planeCuts = lowest_of piece_cuts p.planes
+  abbrev plane_cuts : ℕ
+  plane_cuts = lowest_of piece_cuts p.planes
 
-  abbrev objectCuts : ℕ
-  objectCuts = lowest_of piece_cuts p.objects
+  abbrev object_cuts : ℕ
+  object_cuts = lowest_of piece_cuts p.objects
 
-  pub objects-exact : (objects_number p ≡ 0) ↔ SoundObjects p
+  pub objects_exact : (objects_number p ≡ 0) ↔ SoundObjects p
   unfolding objects_number tally_of
-  objects-exact =
+  objects_exact =
       let own : ℕ = lowest_of (piece_own false m) p.objects in
       let right : Bool = places_ok false 0 p.objects in
-      let all : Bool = right && leb objectsUsed 1024 in
-      let a = cond_zero (counts_ok p) (lower own (cond all objectCuts no_room)) 1 in
-      let b = lower_zero own (cond all objectCuts no_room) in
-      let c = cond_zero all objectCuts 1 in
-      let d = and-eq-true_iff right (leb objectsUsed 1024) in (
+      let all : Bool = right && leb objects_used 1024 in
+      let a = cond_zero (counts_ok p) (lower own (cond all object_cuts no_room)) 1 in
+      let b = lower_zero own (cond all object_cuts no_room) in
+      let c = cond_zero all object_cuts 1 in
+      let d = and-eq-true_iff right (leb objects_used 1024) in (
         λ e. let x = a.0 e in let y = b.0 x.1 in let z = c.0 y.1 in let t = d.0 z.0 in
             record {
               counts = (counts_exact p).0 x.0;
               objects = to false m p.objects (record { own = y.0; placed = t.0; cuts = z.1 });
-              room = leb-true objectsUsed 1024 t.1;
+              room = leb-true objects_used 1024 t.1;
             },
         λ s.
             let k = from false m p.objects s.objects in
-            let t = d.1 (k.placed, le-leb objectsUsed 1024 s.room) in
+            let t = d.1 (k.placed, le-leb objects_used 1024 s.room) in
             a.1 ((counts_exact p).1 s.counts, b.1 (k.own, c.1 (t, k.cuts))),
       )
 
@@ -159,28 +159,28 @@ module _ (p : Plan) where
   abbrev owns : ℕ
   owns = lower (lowest_of (piece_own true m) p.planes) (lowest_of (piece_own false m) p.objects)
 
-  abbrev solidsNumber : ℕ
-  solidsNumber = lower owns (cond (solids_placed p) (lower planeCuts objectCuts) no_room)
+  abbrev solids_number : ℕ
+  solids_number = lower owns (cond (solids_placed p) (lower plane_cuts object_cuts) no_room)
 
-  solids-number : (solids_of p).number ≡ cond (counts_ok p) solidsNumber no_room
+  solids_number_lem : (solids_of p).number ≡ cond (counts_ok p) solids_number no_room
   unfolding solids_of tally_of
-  solids-number = number_of (counts_ok p) _ _
+  solids_number_lem = number_of (counts_ok p) _ _
 
-  pub solids-exact : ((solids_of p).number ≡ 0) ↔ SoundSolids p
+  pub solids_exact : ((solids_of p).number ≡ 0) ↔ SoundSolids p
   unfolding tally_of
-  solids-exact =
+  solids_exact =
       let planes : Bool = places_ok true 0 p.planes in
       let objects : Bool = places_ok false 0 p.objects in
-      let few : Bool = leb (planesUsed + objectsUsed) 1024 in
-      let a = cond_zero (counts_ok p) solidsNumber 1 in
-      let b = lower_zero owns (cond (solids_placed p) (lower planeCuts objectCuts) no_room) in
+      let few : Bool = leb (planes_used + objects_used) 1024 in
+      let a = cond_zero (counts_ok p) solids_number 1 in
+      let b = lower_zero owns (cond (solids_placed p) (lower plane_cuts object_cuts) no_room) in
       let o = lower_zero (lowest_of (piece_own true m) p.planes) (lowest_of (piece_own false m) p.objects) in
-      let c = cond_zero (solids_placed p) (lower planeCuts objectCuts) 1 in
-      let k = lower_zero planeCuts objectCuts in
+      let c = cond_zero (solids_placed p) (lower plane_cuts object_cuts) 1 in
+      let k = lower_zero plane_cuts object_cuts in
       let d = and-eq-true_iff planes (objects && few) in
       let f = and-eq-true_iff objects few in (
         λ e.
-            let x = a.0 (sym solids-number ∙ e) in
+            let x = a.0 (sym solids_number_lem ∙ e) in
             let y = b.0 x.1 in
             let own = o.0 y.0 in
             let z = c.0 y.1 in
@@ -191,32 +191,32 @@ module _ (p : Plan) where
               counts = (counts_exact p).0 x.0;
               planes = to true m p.planes (record { own = own.0; placed = t.0; cuts = cuts.0 });
               objects = to false m p.objects (record { own = own.1; placed = u.0; cuts = cuts.1 });
-              room = leb-true (planesUsed + objectsUsed) 1024 u.1;
+              room = leb-true (planes_used + objects_used) 1024 u.1;
             },
         λ s.
             let x = from true m p.planes s.planes in
             let y = from false m p.objects s.objects in
-            let t = d.1 (x.placed, f.1 (y.placed, le-leb (planesUsed + objectsUsed) 1024 s.room)) in
+            let t = d.1 (x.placed, f.1 (y.placed, le-leb (planes_used + objects_used) 1024 s.room)) in
             let cuts = k.1 (x.cuts, y.cuts) in
-            solids-number ∙ a.1 ((counts_exact p).1 s.counts, b.1 (o.1 (x.own, y.own), c.1 (t, cuts))),
+            solids_number_lem ∙ a.1 ((counts_exact p).1 s.counts, b.1 (o.1 (x.own, y.own), c.1 (t, cuts))),
       )
 
   -- the places that the two lists use
-  used : counts_ok p ≡ true → ((solids_of p).planes ≡ planesUsed) × ((solids_of p).objects ≡ objectsUsed)
+  used : counts_ok p ≡ true → ((solids_of p).planes ≡ planes_used) × ((solids_of p).objects ≡ objects_used)
   unfolding solids_of tally_of
   used e = (rw e, rw e)
 
-  pub solids-used
-      : (solids_of p).number ≡ 0 → ((solids_of p).planes ≡ planesUsed) × ((solids_of p).objects ≡ objectsUsed)
-  solids-used e = used ((counts_exact p).1 (solids-exact.0 e).counts)
+  pub solids_used
+      : (solids_of p).number ≡ 0 → ((solids_of p).planes ≡ planes_used) × ((solids_of p).objects ≡ objects_used)
+  solids_used e = used ((counts_exact p).1 (solids_exact.0 e).counts)
 
-  pub lit-exact : (lit_number p ≡ 0) ↔ SoundLit p
+  pub lit_exact : (lit_number p ≡ 0) ↔ SoundLit p
   unfolding lit_number
-  lit-exact =
+  lit_exact =
       let lights : ℕ = lowest_of light_number p.lights in
       let a = cond_zero (counts_ok p) (lower (solids_of p).number lights) 1 in
       let b = lower_zero (solids_of p).number lights in
-      let l = lowest-exact light_number LightOk light_exact p.lights in (
-        λ e. let y = b.0 (a.0 e).1 in record { solids = solids-exact.0 y.0; lights = l.0 y.1 },
-        λ s. a.1 ((counts_exact p).1 s.solids.counts, b.1 (solids-exact.1 s.solids, l.1 s.lights)),
+      let l = lowest_exact light_number LightOk light_exact p.lights in (
+        λ e. let y = b.0 (a.0 e).1 in record { solids = solids_exact.0 y.0; lights = l.0 y.1 },
+        λ s. a.1 ((counts_exact p).1 s.solids.counts, b.1 (solids_exact.1 s.solids, l.1 s.lights)),
       )

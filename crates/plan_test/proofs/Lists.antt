@@ -13,9 +13,9 @@ use borrow.Author.Tests.{eqb-true, leb-true, le-leb}
 use mir.Syntax.{w64}
 use mir.Val.{Fits}
 use Rattle.words.specs.Lists.{list_from}
-use Rattle.words.proofs.Runs.{from-snoc, length_from}
+use Rattle.words.proofs.Runs.{from_snoc, length_from}
 use Rattle.refusals.specs.Refusals.{no_room, lower, lowest_of}
-use Rattle.refusals.proofs.Lowest.{lower_assoc, lowest_start, lowest-more}
+use Rattle.refusals.proofs.Lowest.{lower_assoc, lowest_start, lowest_more}
 use Rattle.plan.specs.declared.Head.{Head}
 use Rattle.plan.specs.Sections.{materials, planes, lights, objects, cuts_most}
 use Rattle.plan.specs.Records.{material_at, light_in, cutter_at, head_at}
@@ -70,33 +70,33 @@ module _ (w : List ℕ) (f : List Float) (r : ℕ) where
   unfolding cutters_of pieces_from list_from
   used_start = refl
 
-  pub used-more
+  pub used_more
       : (j : ℕ)
       → cutters_of (pieces_from w f r (j + 1)) ≡ cutters_of (pieces_from w f r j) + (head_at w f (r + j)).cutters
   unfolding pieces_from piece_at
-  used-more j = rw (add-one, from-snoc (piece_at w f) r j, cutters_snoc)
+  used_more j = rw (add-one, from_snoc (piece_at w f) r j, cutters_snoc)
 
-  pub own-start : (among : Bool) (m : ℕ) → 0 ≡ lowest_of (piece_own among m) (pieces_from w f r 0)
+  pub own_start : (among : Bool) (m : ℕ) → 0 ≡ lowest_of (piece_own among m) (pieces_from w f r 0)
   unfolding pieces_from
-  own-start among m = lowest_start (piece_own among m) (piece_at w f) r
+  own_start among m = lowest_start (piece_own among m) (piece_at w f) r
 
-  pub own-more
+  pub own_more
       : (among : Bool) (m j : ℕ)
       → lowest_of (piece_own among m) (pieces_from w f r (j + 1))
       ≡ lower (lowest_of (piece_own among m) (pieces_from w f r j)) (own_number among m (head_at w f (r + j)))
   unfolding pieces_from piece_own piece_at
-  own-more among m j = lowest-more (piece_own among m) (piece_at w f) r j
+  own_more among m j = lowest_more (piece_own among m) (piece_at w f) r j
 
-  pub placed-start : (among : Bool) → true ≡ places_ok among 0 (pieces_from w f r 0)
+  pub placed_start : (among : Bool) → true ≡ places_ok among 0 (pieces_from w f r 0)
   unfolding places_ok pieces_from list_from
-  placed-start among = refl
+  placed_start among = refl
 
-  pub placed-more
+  pub placed_more
       : (among : Bool) (j : ℕ)
       → places_ok among 0 (pieces_from w f r (j + 1))
       ≡ (places_ok among 0 (pieces_from w f r j) && place_ok among (cutters_of (pieces_from w f r j)) (head_at w f (r + j)))
   unfolding pieces_from piece_at
-  placed-more among j = rw (add-one, from-snoc (piece_at w f) r j, placed_snoc, zero-add)
+  placed_more among j = rw (add-one, from_snoc (piece_at w f) r j, placed_snoc, zero-add)
 
 -- a sum of j words, and of one more
 pub sum_words : (used n j : ℕ) → used ≤ 4294967295 * j → n ≤ 4294967295 → used + n ≤ 4294967295 * (j + 1)
@@ -108,16 +108,16 @@ sum_fits used n j h l k = record { fits = omega arith }
 
 -- ---- objects' cutters stand one after the other
 module _ {A : Type 0} (number : A → ℕ) (g : ℕ → A) where
-  lowest-split
+  lowest_split
       : (a c m : ℕ)
       → lowest_of number (list_from g a (c + m))
       ≡ lower (lowest_of number (list_from g a c)) (lowest_of number (list_from g (a + c) m))
   unfolding lowest_of list_from lower
-  lowest-split a zero m = rw (add-zero, zero-add)
-  lowest-split a (suc c) m =
+  lowest_split a zero m = rw (add-zero, zero-add)
+  lowest_split a (suc c) m =
       let e : suc c + m ≡ suc (c + m) = omega arith in
       let i : a + suc c ≡ suc a + c = omega arith in
-      rw (e, i, lowest-split (suc a) c m)
+      rw (e, i, lowest_split (suc a) c m)
       (lower_assoc (number (g a)) (lowest_of number (list_from g (suc a) c)) (lowest_of number (list_from g (suc a + c) m)))
 
 place_before : (before : ℕ) (h : Head) → place_ok false before h ≡ true → h.place ≡ before
@@ -138,7 +138,7 @@ flat_from w f (suc n) r before h =
     let here : (head_at w f r).place ≡ before = place_before before o p.0 in
     let e : 369 + (before + o.cutters) ≡ 369 + before + o.cutters = omega arith in
     let more = flat_from w f n (suc r) (before + o.cutters) p.1 in
-    rw (lowest-split cutter_number (cutter_at w f) (369 + before) o.cutters (cutters_of rest), here, more, e)
+    rw (lowest_split cutter_number (cutter_at w f) (369 + before) o.cutters (cutters_of rest), here, more, e)
 
 -- all objects' cutters as one list
 flat_objects
@@ -158,59 +158,59 @@ lower_cond true m n = refl
 lower_cond false m n = refl
 
 module _ (w : List ℕ) (f : List Float) where
-  abbrev planesIn : List Piece
-  planesIn = pieces_from w f planes.first (count_of planes w)
+  abbrev planes_in : List Piece
+  planes_in = pieces_from w f planes.first (count_of planes w)
 
-  abbrev objectsIn : List Piece
-  objectsIn = pieces_from w f objects.first (count_of objects w)
+  abbrev objects_in : List Piece
+  objects_in = pieces_from w f objects.first (count_of objects w)
 
   abbrev tallied : Bool → List Piece → Tally
   tallied among os = tally_of among (count_of materials w) os
 
-  abbrev allPlaced : Bool
-  allPlaced =
-      (tallied true planesIn).placed
-      && ((tallied false objectsIn).placed && leb ((tallied true planesIn).used + (tallied false objectsIn).used) 1024)
+  abbrev all_placed : Bool
+  all_placed =
+      (tallied true planes_in).placed
+      && ((tallied false objects_in).placed && leb ((tallied true planes_in).used + (tallied false objects_in).used) 1024)
 
-  pub objects-words
+  pub objects_words
       : objects_number (plan_of w f)
       ≡ cond (counts_ok (plan_in w))
-      (lower (tallied false objectsIn).number
-      (cond ((tallied false objectsIn).placed && leb (tallied false objectsIn).used 1024)
-      (lowest_of piece_cuts objectsIn)
+      (lower (tallied false objects_in).number
+      (cond ((tallied false objects_in).placed && leb (tallied false objects_in).used 1024)
+      (lowest_of piece_cuts objects_in)
       no_room))
       no_room
   unfolding objects_number plan_of
-  objects-words = rw (counts_any w f (seen w), length_from (material_at f) materials.first (count_of materials w))
+  objects_words = rw (counts_any w f (seen w), length_from (material_at f) materials.first (count_of materials w))
 
   -- the same, as the code has it
-  pub objects-flat
+  pub objects_flat
       : objects_number (plan_of w f)
       ≡ cond (counts_ok (plan_in w))
-      (lower (tallied false objectsIn).number
-      (cuts_flat w f ((tallied false objectsIn).placed && leb (tallied false objectsIn).used 1024)
-      (tallied false objectsIn).used))
+      (lower (tallied false objects_in).number
+      (cuts_flat w f ((tallied false objects_in).placed && leb (tallied false objects_in).used 1024)
+      (tallied false objects_in).used))
       no_room
   unfolding tally_of
-  objects-flat =
-      rw (flat_objects w f objects.first (count_of objects w) (cutters_of objectsIn)
-      (places_ok false 0 objectsIn && leb (cutters_of objectsIn) 1024) refl
-      (λ e. (and-eq-true_iff (places_ok false 0 objectsIn) (leb (cutters_of objectsIn) 1024)).0 e))
-      objects-words
+  objects_flat =
+      rw (flat_objects w f objects.first (count_of objects w) (cutters_of objects_in)
+      (places_ok false 0 objects_in && leb (cutters_of objects_in) 1024) refl
+      (λ e. (and-eq-true_iff (places_ok false 0 objects_in) (leb (cutters_of objects_in) 1024)).0 e))
+      objects_words
 
   -- among planes and objects
-  pub solids-flat
+  pub solids_flat
       : {p o : Tally} {fit some placed : Bool} {b : ℕ}
-      → p ≡ tallied true planesIn
-      → o ≡ tallied false objectsIn
+      → p ≡ tallied true planes_in
+      → o ≡ tallied false objects_in
       → fit ≡ leb (p.used + o.used) 1024
       → some ≡ (o.placed && fit)
       → placed ≡ (p.placed && some)
       → b ≡ cuts_flat w f placed o.used
-      → b ≡ cond placed (lowest_of piece_cuts objectsIn) no_room
+      → b ≡ cond placed (lowest_of piece_cuts objects_in) no_room
   unfolding tally_of
-  solids-flat {p} {o} {fit} {some} {placed} {b} ep eo ef es el eb =
-      let good : placed ≡ true → (places_ok false 0 objectsIn ≡ true) × (leb o.used 1024 ≡ true) =
+  solids_flat {p} {o} {fit} {some} {placed} {b} ep eo ef es el eb =
+      let good : placed ≡ true → (places_ok false 0 objects_in ≡ true) × (leb o.used 1024 ≡ true) =
       λ t.
       let q = (and-eq-true_iff o.placed fit).0
       (sym es ∙ ((and-eq-true_iff p.placed some).0 (sym el ∙ t)).1) in
@@ -218,49 +218,49 @@ module _ (w : List ℕ) (f : List Float) where
       (sym (ap (λ (x : Tally). x.placed) eo) ∙ q.0, le-leb o.used 1024 (omega arith)) in
       eb ∙ flat_objects w f objects.first (count_of objects w) o.used placed (ap (λ (x : Tally). x.used) eo) good
 
-  abbrev solidsIn : Solids
-  solidsIn =
+  abbrev solids_in : Solids
+  solids_in =
       record {
         number =
-            lower (lower (tallied true planesIn).number (tallied false objectsIn).number)
+            lower (lower (tallied true planes_in).number (tallied false objects_in).number)
             (lower
-            (cond allPlaced (lowest_of piece_cuts planesIn) no_room)
-            (cond allPlaced (lowest_of piece_cuts objectsIn) no_room));
-        planes = (tallied true planesIn).used;
-        objects = (tallied false objectsIn).used;
+            (cond all_placed (lowest_of piece_cuts planes_in) no_room)
+            (cond all_placed (lowest_of piece_cuts objects_in) no_room));
+        planes = (tallied true planes_in).used;
+        objects = (tallied false objects_in).used;
       }
 
-  pub solids-words
+  pub solids_words
       : solids_of (plan_of w f)
-      ≡ cond (counts_ok (plan_in w)) solidsIn (record { number = no_room; planes = 0; objects = 0 })
+      ≡ cond (counts_ok (plan_in w)) solids_in (record { number = no_room; planes = 0; objects = 0 })
   unfolding solids_of plan_of
-  solids-words =
+  solids_words =
       rw (
         counts_any w f (seen w),
         length_from (material_at f) materials.first (count_of materials w),
-        lower_cond allPlaced (lowest_of piece_cuts planesIn) (lowest_of piece_cuts objectsIn),
+        lower_cond all_placed (lowest_of piece_cuts planes_in) (lowest_of piece_cuts objects_in),
       )
 
   -- as the code computes it, call by call
-  pub solids-made
+  pub solids_made
       : {p o : Tally} {fit some placed : Bool} {a b cuts own number : ℕ}
-      → p ≡ tallied true planesIn
-      → o ≡ tallied false objectsIn
+      → p ≡ tallied true planes_in
+      → o ≡ tallied false objects_in
       → fit ≡ leb (p.used + o.used) 1024
       → some ≡ (o.placed && fit)
       → placed ≡ (p.placed && some)
-      → a ≡ cond placed (lowest_of piece_cuts planesIn) no_room
-      → b ≡ cond placed (lowest_of piece_cuts objectsIn) no_room
+      → a ≡ cond placed (lowest_of piece_cuts planes_in) no_room
+      → b ≡ cond placed (lowest_of piece_cuts objects_in) no_room
       → cuts ≡ lower a b
       → own ≡ lower p.number o.number
       → number ≡ lower own cuts
-      → ◌≡◌ {A = Solids} (record { number = number; planes = p.used; objects = o.used }) solidsIn
-  solids-made p o fit some placed a b cuts own number = rw (number, own, cuts, a, b, placed, some, fit, p, o)
+      → ◌≡◌ {A = Solids} (record { number = number; planes = p.used; objects = o.used }) solids_in
+  solids_made p o fit some placed a b cuts own number = rw (number, own, cuts, a, b, placed, some, fit, p, o)
 
-  pub lit-words
+  pub lit_words
       : lit_number (plan_of w f)
       ≡ cond (counts_ok (plan_in w))
       (lower (solids_of (plan_of w f)).number (lowest_of light_number (list_from (light_in f) 0 (count_of lights w))))
       no_room
   unfolding lit_number plan_of
-  lit-words = rw (counts_any w f (seen w))
+  lit_words = rw (counts_any w f (seen w))

@@ -82,31 +82,31 @@ cutter_same v w r g h =
     rw (h (16 * r) (omega arith), same 0, same 1, same 2, same 3, same 4, same 5, same 6, same 7)
 
 module _ (w : List ℕ) (place : ℕ) where
-  cutters-after : (n k : ℕ) → 22288 ≤ k → get_or (put_cutters w place n) k 0 ≡ get_or w k 0
+  cutters_after : (n k : ℕ) → 22288 ≤ k → get_or (put_cutters w place n) k 0 ≡ get_or w k 0
   unfolding put_cutters
-  cutters-after zero k h = refl
-  cutters-after (suc n) k h =
+  cutters_after zero k h = refl
+  cutters_after (suc n) k h =
       row_after (put_cutters w place n) (369 + place + n) (cutter_words w (1394 + n)) k (omega arith) h
-      ∙ cutters-after n k h
+      ∙ cutters_after n k h
 
-  pub length-cutters : (n : ℕ) → length (put_cutters w place n) ≡ length w
+  pub length_cutters : (n : ℕ) → length (put_cutters w place n) ≡ length w
   unfolding put_cutters
-  length-cutters zero = refl
-  length-cutters (suc n) =
-      length_row (put_cutters w place n) (369 + place + n) (cutter_words w (1394 + n)) ∙ length-cutters n
+  length_cutters zero = refl
+  length_cutters (suc n) =
+      length_row (put_cutters w place n) (369 + place + n) (cutter_words w (1394 + n)) ∙ length_cutters n
 
-  pub cutters-other
+  pub cutters_other
       : (n k : ℕ)
       → (k < 16 * (369 + place)) ⊎ (16 * (369 + place + n) ≤ k)
       → get_or (put_cutters w place n) k 0 ≡ get_or w k 0
   unfolding put_cutters
-  cutters-other zero k h = refl
-  cutters-other (suc n) k h =
+  cutters_other zero k h = refl
+  cutters_other (suc n) k h =
       row_other (put_cutters w place n) (369 + place + n) (cutter_words w (1394 + n)) k (omega arith)
       (⊎_elim (λ p. inl (omega arith)) (λ p. inr (omega arith)) h)
-      ∙ cutters-other n k (⊎_elim (λ p. inl p) (λ p. inr (omega arith)) h)
+      ∙ cutters_other n k (⊎_elim (λ p. inl p) (λ p. inr (omega arith)) h)
 
-  pub cutters-here
+  pub cutters_here
       : (n j k : ℕ)
       → length w ≡ 27296
       → place + n ≤ 1024
@@ -114,8 +114,8 @@ module _ (w : List ℕ) (place : ℕ) where
       → k < 16
       → get_or (put_cutters w place n) (16 * (369 + place + j) + k) 0 ≡ get_or (cutter_words w (1394 + j)) k 0
   unfolding put_cutters
-  cutters-here zero j k len fit h p = absurd (omega arith)
-  cutters-here (suc n) j k len fit h p =
+  cutters_here zero j k len fit h p = absurd (omega arith)
+  cutters_here (suc n) j k len fit h p =
       let v : List ℕ = put_cutters w place n in
       let row : ℕ = 369 + place + n in
       elim (dec_le n j) [
@@ -126,24 +126,24 @@ module _ (w : List ℕ) (place : ℕ) where
             (λ (i : ℕ). get_or (put_row v row words) (16 * (369 + place + i) + k) 0 ≡ get_or
             (cutter_words w (1394 + i)) k 0)
             (sym e)
-            (row_here v row words k (length-cutters n ∙ len) (omega arith) refl p)
+            (row_here v row words k (length_cutters n ∙ len) (omega arith) refl p)
         | no g ↦
             row_other v row (cutter_words w (1394 + n)) (16 * (369 + place + j) + k) (omega arith) (inl (omega arith))
-            ∙ cutters-here n j k len (omega arith) (omega arith) p
+            ∙ cutters_here n j k len (omega arith) (omega arith) p
       ]
 
-  pub put-none : w ≡ put_cutters w place 0
+  pub put_none : w ≡ put_cutters w place 0
   unfolding put_cutters
-  put-none = refl
+  put_none = refl
 
   -- a turn reads the arguments of the table that it writes
-  pub put-more
+  pub put_more
       : (j : ℕ)
       → put_cutters w place (j + 1)
       ≡ put_row (put_cutters w place j) (369 + place + j) (cutter_words (put_cutters w place j) (1394 + j))
   unfolding put_cutters
-  put-more j =
+  put_more j =
       let v : List ℕ = put_cutters w place j in
       let e : cutter_words v (1394 + j) ≡ cutter_words w (1394 + j)
-      = cutter_same v w (1394 + j) (omega arith) (cutters-after j) in
+      = cutter_same v w (1394 + j) (omega arith) (cutters_after j) in
       rw (add-one j, e)

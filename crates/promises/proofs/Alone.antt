@@ -19,7 +19,7 @@ use Rattle.plan_test.proofs.Apart.{objects_reach}
 use Rattle.plan_entry.proofs.Entered.{plan_relent}
 use Rattle.wire.specs.Lent.{plan_table, ask_table}
 use Rattle.promises.specs.Bytes.{plan_with, plan_at}
-use Rattle.promises.proofs.Tables.{table-plan, plan-word}
+use Rattle.promises.proofs.Tables.{table_plan, plan_word}
 use Rattle.plan_entry.proofs.Made.{materials_of, pieces_of}
 
 -- two tables have the same plan's words
@@ -29,13 +29,13 @@ SamePlan v w = (i : ℕ) → i < plan_words → word_of v i ≡ word_of w i
 pub lent_same
     : (need need' : ℕ) (plan args args' : List ℕ)
     → SamePlan (plan_table need plan args) (plan_table need' plan args')
-lent_same need need' plan args args' i h = plan-word need plan args i h ∙ sym (plan-word need' plan args' i h)
+lent_same need need' plan args args' i h = plan_word need plan args i h ∙ sym (plan_word need' plan args' i h)
 
 pub asked_same
     : (need : ℕ) (plan nodes order : List ℕ) (tree : ℕ) (args : List ℕ)
     → SamePlan (ask_table need plan nodes order tree args) (plan_table 0 plan [])
 unfolding ask_table
-asked_same need plan nodes order tree args i h = table-plan _ _ _ _ i h ∙ sym (plan-word 0 plan [] i h)
+asked_same need plan nodes order tree args i h = table_plan _ _ _ _ i h ∙ sym (plan_word 0 plan [] i h)
 
 -- ---- its words, one after the other
 pub Front-same
@@ -78,9 +78,9 @@ module _ (w v : List ℕ) (same : SamePlan v w) where
   row : (r : ℕ) → r < 1393 → Kept v w r
   row r l = kept v w r (λ k p. same (16 * r + k) (omega arith))
 
-  pub objects-alone : Housed (plan_in w).objects → (plan_in v).objects ≡ (plan_in w).objects
+  pub objects_alone : Housed (plan_in w).objects → (plan_in v).objects ≡ (plan_in w).objects
   unfolding plan_of pieces_from piece_at
-  objects-alone h =
+  objects_alone h =
       let used : ℕ = cutters_of (plan_in w).objects in
       let few : count_of objects w ≤ 256 = omega (arith, pieces_of false w, h.few) in
       let place : (j : ℕ) → j < count_of objects w
@@ -95,11 +95,11 @@ module _ (w v : List ℕ) (same : SamePlan v w) where
       let room = h.room in
       row (369 + (head_at w (seen w) (113 + j)).place + k) (omega arith)))
 
-  pub sound-alone : SoundObjects (plan_in w) → SoundObjects (plan_in v)
-  sound-alone s =
+  pub sound_alone : SoundObjects (plan_in w) → SoundObjects (plan_in v)
+  sound_alone s =
       let m : length (plan_in v).materials ≡ length (plan_in w).materials
       = materials_of v ∙ same 0 (omega arith) ∙ sym (materials_of w) in
-      let o : (plan_in v).objects ≡ (plan_in w).objects = objects-alone (sound_housed (plan_in w) s) in
+      let o : (plan_in v).objects ≡ (plan_in w).objects = objects_alone (sound_housed (plan_in w) s) in
       record {
         counts =
             (counts_exact (plan_in v)).0

@@ -42,7 +42,7 @@ use Rattle.promises.specs.Applies.{of_tree, ArgsCall, bounded, args_calls, args_
 use Rattle.promises.specs.Applies.{ask_calls, ask_apply, material_apply, light_apply, plane_apply, object_apply}
 use Rattle.promises.specs.Applies.{build_apply, offer_apply}
 use Rattle.promises.proofs.Cases.{◌&◌}
-use Rattle.promises.proofs.Replies.{reply_number, traced_number, sent-number}
+use Rattle.promises.proofs.Replies.{reply_number, traced_number, sent_number}
 
 -- 0 is no number
 none_first : (n : ℕ) → lower 0 n ≡ n
@@ -133,18 +133,18 @@ asks_lowest = all_map Goes AskLowest asked ask_calls goes
 
 -- ---- calls that write
 module _ (plan args out : List ℕ) (n : ℕ) (plan' out' : List ℕ) where
-  pub material-lowest
+  pub material_lowest
       : MaterialSent plan args out n plan' out' → n ≡ lowest_in (material_apply plan args (length out))
   unfolding record_number plan_before args_before lowest_in
-  material-lowest e = sent-number _ _ e.sent ∙ simp (lower_assoc, lower_none)
+  material_lowest e = sent_number _ _ e.sent ∙ simp (lower_assoc, lower_none)
 
-  pub light-lowest : LightSent plan args out n plan' out' → n ≡ lowest_in (light_apply plan args (length out))
+  pub light_lowest : LightSent plan args out n plan' out' → n ≡ lowest_in (light_apply plan args (length out))
   unfolding record_number plan_before args_before lowest_in
-  light-lowest e = sent-number _ _ e.sent ∙ simp (lower_assoc, lower_none)
+  light_lowest e = sent_number _ _ e.sent ∙ simp (lower_assoc, lower_none)
 
-  pub plane-lowest : PlaneSent plan args out n plan' out' → n ≡ lowest_in (plane_apply plan args (length out))
+  pub plane_lowest : PlaneSent plan args out n plan' out' → n ≡ lowest_in (plane_apply plan args (length out))
   unfolding piece_number args_number head_at room_number plan_before args_before lowest_in
-  plane-lowest e = sent-number _ _ e.sent ∙ simp (lower_assoc, lower_none)
+  plane_lowest e = sent_number _ _ e.sent ∙ simp (lower_assoc, lower_none)
 
 pub object_lowest
     : (plan nodes order args out : List ℕ) (n : ℕ) (plan' nodes' order' out' : List ℕ)
@@ -152,7 +152,7 @@ pub object_lowest
     → n ≡ lowest_in (object_apply plan nodes order args (length out))
 unfolding piece_number args_number head_at room_number tree_tables_before tables_before plan_before args_before lowest_in
 object_lowest plan nodes order args out n plan' nodes' order' out' e =
-    sent-number _ _ e.piece.sent ∙ simp (lower_assoc, lower_none)
+    sent_number _ _ e.piece.sent ∙ simp (lower_assoc, lower_none)
 
 -- of objects that are in order, the tree; else nothing is judged of it
 of_objects : (o t : ℕ) → cond (eqb o 0) t o ≡ lower o (cond (eqb o 0) t 0)
@@ -165,7 +165,7 @@ pub build_lowest
     → n ≡ lowest_in (build_apply plan nodes order (length out))
 unfolding build_number tree_tables_before tables_before plan_before args_before done_reply lowest_in
 build_lowest plan nodes order out n nodes' order' out' e =
-    sent-number _ _ e.sent
+    sent_number _ _ e.sent
     ∙ rw (of_objects (objects_number (build_plan plan)) (unless too_deep (low_enough (build_plan plan))))
     (simp (lower_assoc, lower_none))
 
@@ -176,5 +176,5 @@ pub offer_lowest
 unfolding offer_number tree_tables_before tables_before plan_before args_before done_reply lowest_in
 offer_lowest plan nodes order given ranks out n nodes' order' out' e =
     let w : List ℕ = offer_table plan given ranks in
-    sent-number _ _ e.sent
+    sent_number _ _ e.sent
     ∙ rw (of_objects (objects_number (plan_in w)) (offered_tree w (seen w))) (simp (lower_assoc, lower_none))

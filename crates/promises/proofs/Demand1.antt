@@ -11,11 +11,11 @@ pub mod Witness
 use mathlib.Core.Bool.{true, false}
 use Rattle.wire.specs.Lent.{plan_table}
 use Rattle.promises.specs.Demand1.{DemandOne}
-use Rattle.promises.proofs.Replies.{sent-number}
+use Rattle.promises.proofs.Replies.{sent_number}
 use Rattle.plan_entry.proofs.Made.{materials_of, lights_of, pieces_of}
 use Rattle.promises.proofs.Alone.{alone}
-use Rattle.promises.proofs.Demand1.Entries.{entry-enters, entry_answers, tree_drops, material-entry}
-use Rattle.promises.proofs.Demand1.Entries.{light-entry, plane-entry, object-entry}
+use Rattle.promises.proofs.Demand1.Entries.{entry_enters, entry_answers, tree_drops, material_entry_lem}
+use Rattle.promises.proofs.Demand1.Entries.{light_entry_lem, plane_entry, object_entry}
 use Rattle.promises.proofs.Demand1.Runs.{zero_bytes, runs_pass}
 
 pub demand_one : DemandOne
@@ -23,17 +23,17 @@ demand_one =
     record {
       material_enters = λ plan args out n plan' out' e.
           let w = plan_table 20 plan args in
-          (entry-enters (material-entry plan args out) e, entry_answers e (materials_of w));
+          (entry_enters (material_entry_lem plan args out) e, entry_answers e (materials_of w));
       light_enters = λ plan args out n plan' out' e.
           let w = plan_table 60 plan args in
-          (entry-enters (light-entry plan args out) e, entry_answers e (lights_of w));
+          (entry_enters (light_entry_lem plan args out) e, entry_answers e (lights_of w));
       plane_enters = λ plan args out n plan' out' e.
           let w = plan_table 64 plan args in
-          (entry-enters (plane-entry plan args out) e, entry_answers e (pieces_of true w));
+          (entry_enters (plane_entry plan args out) e, entry_answers e (pieces_of true w));
       object_enters = λ plan nodes order args out n plan' nodes' order' out' e.
           let w = plan_table 64 plan args in
-          let i = sent-number _ _ e.piece.sent in (
-            entry-enters (object-entry plan args out nodes order) e.piece,
+          let i = sent_number _ _ e.piece.sent in (
+            entry_enters (object_entry plan args out nodes order) e.piece,
             (entry_answers e.piece (pieces_of false w), (tree_drops i e.nodes_is, tree_drops i e.order_is)),
           );
       zero_bytes = zero_bytes;

@@ -27,11 +27,11 @@ use Rattle.viewer.specs.Calls.{Ask, ask_reply}
 use Rattle.promises.specs.Demand3.{FieldAnswers, field_calls, DemandThree}
 use Rattle.promises.proofs.Cases.{◌&◌}
 use Rattle.promises.proofs.Replies.{not_refused}
-use Rattle.promises.proofs.Demand3.Asked.{ask-length}
-use Rattle.promises.proofs.Demand3.Offer.{offer-keeps}
-use Rattle.promises.proofs.Demand3.Build.{build-keeps}
+use Rattle.promises.proofs.Demand3.Asked.{ask_length}
+use Rattle.promises.proofs.Demand3.Offer.{offer_keeps}
+use Rattle.promises.proofs.Demand3.Build.{build_keeps}
 use Rattle.promises.proofs.Demand3.Eight.{no_call_eight}
-use Rattle.promises.proofs.Demand3.Standing.{query-stands, solids-stand, lit-stand}
+use Rattle.promises.proofs.Demand3.Standing.{query_stands, solids_stand, lit_stand}
 
 -- ---- a call on a whole table whose number is 0
 abbrev Fields : Ask → Type 0
@@ -42,19 +42,19 @@ Fields ask =
 fields_each : All Fields field_calls
 unfolding dist_mat_reply trace_reply shadow_reply direct_reply direct_diffuse_reply
 fields_each =
-    (λ before w l e. solids-stand before w l _ (not_refused _ _ e).0)
-    & (λ before w l e. solids-stand before w l _ (not_refused _ _ e).0)
-    & (λ before w l e. solids-stand before w l _ (not_refused _ _ e).0)
-    & (λ before w l e. lit-stand before w l _ _ (not_refused _ _ e).0)
-    & (λ before w l e. lit-stand before w l _ _ (not_refused _ _ e).0)
+    (λ before w l e. solids_stand before w l _ (not_refused _ _ e).0)
+    & (λ before w l e. solids_stand before w l _ (not_refused _ _ e).0)
+    & (λ before w l e. solids_stand before w l _ (not_refused _ _ e).0)
+    & (λ before w l e. lit_stand before w l _ _ (not_refused _ _ e).0)
+    & (λ before w l e. lit_stand before w l _ _ (not_refused _ _ e).0)
     & tt
 
 pub demand_three : DemandThree
 unfolding query_reply
 demand_three =
     record {
-      offer = offer-keeps;
-      build = build-keeps;
+      offer = offer_keeps;
+      build = build_keeps;
       standing = no_call_eight;
       query = λ plan nodes order args out out' need sent.
           let w = ask_table need plan nodes order 1 args in
@@ -63,7 +63,7 @@ demand_three =
           let r = not_refused _ _ (sym sent.number_is) in (
             hit_by 1 w (seen w) (arg_vec (seen w) 0) (query_bound w (seen w)),
             sent.out_is ∙ ap (λ (x : Reply). sent_words out x.words) r.1,
-            query-stands before w (ask-length need plan nodes order args) r.0,
+            query_stands before w (ask_length need plan nodes order args) r.0,
           );
       fields = λ plan nodes order args need out.
           let w = ask_table need plan nodes order 1 args in
@@ -71,6 +71,6 @@ demand_three =
           (λ (ask : Ask). (ask_reply ask need plan nodes order 1 args out).number ≡ 0 → FieldAnswers w)
           (λ ask field.
           field (ask_before need (length plan) (length nodes) (length order) 1 (length args) out) w
-          (ask-length need plan nodes order args))
+          (ask_length need plan nodes order args))
           field_calls fields_each;
     }

@@ -34,16 +34,16 @@ not_refused (suc n) r e = let z : suc n ≡ 0 = rw (eqb-suc-zero n) at e in absu
 module _ (number i : ℕ) {out : List ℕ} {n : ℕ} {out' : List ℕ}
     (sent : Sent (reply_of number (one_word i)) out n out')
   where
-    pub sent-number : n ≡ number
+    pub sent_number : n ≡ number
     unfolding done_reply
-    sent-number = sent.number_is ∙ reply_number number (one_word i) refl
+    sent_number = sent.number_is ∙ reply_number number (one_word i) refl
 
     pub sent_word : {k : ℕ} → number ≡ 0 → i ≡ k → out' ≡ sent_words out (one_word k).words
     unfolding reply_of
     sent_word z e = sent.out_is ∙ rw (z, e)
 
-    pub sent-refusal : 0 < n → out' ≡ sent_words out (refused_reply n).words
+    pub sent_refusal : 0 < n → out' ≡ sent_words out (refused_reply n).words
     unfolding reply_of
-    sent-refusal h =
-        let r : reply_of number (one_word i) ≡ refused_reply n = rw (sym sent-number) (cond_some n _ _ h) in
+    sent_refusal h =
+        let r : reply_of number (one_word i) ≡ refused_reply n = rw (sym sent_number) (cond_some n _ _ h) in
         sent.out_is ∙ ap (λ (a : Reply). sent_words out a.words) r

@@ -11,7 +11,7 @@ use lib.Dec.{leb, ltb}
 use lib.Ieee.{Float, binary32, of_bits, nan}
 use borrow.Author.Tests.{le-leb}
 use Rattle.words.specs.Words.{word_at, words_of, float_at, floats_of, with_words}
-use Rattle.words.proofs.Runs.{length_from, getD-from}
+use Rattle.words.proofs.Runs.{length_from, get_d_from}
 use Rattle.words.proofs.Laws.{less_or, store_load}
 use Rattle.plan.specs.Sections.{plan_words, args_words, nodes_words, order_places, nodes_first, order_first, table_words}
 use Rattle.plan.specs.Records.{word_of, float_of}
@@ -24,17 +24,17 @@ use Rattle.promises.proofs.Cases.{either}
 
 -- ---- words of bytes
 word_of_lem : (t : List ℕ) (n i : ℕ) → i < n → word_of (words_of t n) i ≡ word_at t i
-word_of_lem t n i h = getD-from (word_at t) 0 n i 0 h ∙ ap (word_at t) (omega arith)
+word_of_lem t n i h = get_d_from (word_at t) 0 n i 0 h ∙ ap (word_at t) (omega arith)
 
 -- what was stored is loaded
 module _ (b ws : List ℕ) (n : ℕ) (size : length ws ≡ n) (fit : 4 * n ≤ length b) where
-  pub stored-words : words_of (with_words b ws) n ≡ ws
-  stored-words =
+  pub stored_words : words_of (with_words b ws) n ≡ ws
+  stored_words =
       ap (words_of (with_words b ws)) (sym size)
       ∙ store_load b ws (subst (λ (k : ℕ). 4 * k ≤ length b) (sym size) fit)
 
-  pub stored-word : (i : ℕ) → i < n → word_at (with_words b ws) i ≡ word_of ws i
-  stored-word i h = sym (word_of_lem (with_words b ws) n i h) ∙ ap (λ (t : List ℕ). word_of t i) stored-words
+  pub stored_word : (i : ℕ) → i < n → word_at (with_words b ws) i ≡ word_of ws i
+  stored_word i h = sym (word_of_lem (with_words b ws) n i h) ∙ ap (λ (t : List ℕ). word_of t i) stored_words
 
 -- a table of full size is lent whole, and used whole
 pub lent_full : (t : List ℕ) (full : ℕ) → full ≤ length t → lent_of t full ≡ t
@@ -49,7 +49,7 @@ used_full = lent_full
 pub float_word : (w : List ℕ) (m i : ℕ) → i < m → float_of (floats_of w m) i ≡ of_bits binary32 (word_of w i)
 unfolding float_at
 float_word w m i h =
-    getD-from (float_at w) 0 m i nan h ∙ ap (λ (j : ℕ). of_bits binary32 (word_of w j)) (omega arith)
+    get_d_from (float_at w) 0 m i nan h ∙ ap (λ (j : ℕ). of_bits binary32 (word_of w j)) (omega arith)
 
 part_floats
     : (w : List ℕ) (m from n : ℕ)
@@ -101,63 +101,63 @@ module _ (p a n o : List ℕ) where
   unfolding table_of
   parts = simp append_assoc
 
-  pub table-length : length (table_of p a n o) ≡ table_words
-  table-length = ap length parts ∙ simp (length-append, length_from)
+  pub table_length : length (table_of p a n o) ≡ table_words
+  table_length = ap length parts ∙ simp (length-append, length_from)
 
-  pub table-plan : (i : ℕ) → i < plan_words → word_of (table_of p a n o) i ≡ word_at p i
-  table-plan i h =
+  pub table_plan : (i : ℕ) → i < plan_words → word_of (table_of p a n o) i ≡ word_at p i
+  table_plan i h =
       ap (λ (t : List ℕ). word_of t i) parts
       ∙ get_or-append P (rest_of a n o) 0 i (omega (arith, length_words p plan_words))
       ∙ word_of_lem p plan_words i h
 
-  table-rest : (j : ℕ) → word_of (table_of p a n o) (plan_words + j) ≡ word_of (rest_of a n o) j
-  table-rest j =
+  table_rest : (j : ℕ) → word_of (table_of p a n o) (plan_words + j) ≡ word_of (rest_of a n o) j
+  table_rest j =
       ap (λ (t : List ℕ). word_of t (plan_words + j)) parts
       ∙ ap (λ (k : ℕ). word_of (P ++ rest_of a n o) (k + j)) (sym (length_words p plan_words))
       ∙ get_or-append-add P (rest_of a n o) j 0
 
-  table-args : (i : ℕ) → i < args_words → word_of (table_of p a n o) (plan_words + i) ≡ word_at a i
-  table-args i h =
-      table-rest i
+  table_args : (i : ℕ) → i < args_words → word_of (table_of p a n o) (plan_words + i) ≡ word_at a i
+  table_args i h =
+      table_rest i
       ∙ get_or-append A (N ++ (O ++ Z)) 0 i (omega (arith, length_words a args_words))
       ∙ word_of_lem a args_words i h
 
-  pub table-nodes : nodes_of (table_of p a n o) ≡ words_of n nodes_words
+  pub table_nodes : nodes_of (table_of p a n o) ≡ words_of n nodes_words
   unfolding table_of nodes_of
-  table-nodes =
+  table_nodes =
       rw (append_assoc ((P ++ A) ++ N) O Z)
       (part_of (P ++ A) N (O ++ Z) nodes_first nodes_words (simp (length-append, length_from))
       (length_words n nodes_words))
 
-  pub table-floats : nodes_of (seen (table_of p a n o)) ≡ floats_of (words_of n nodes_words) nodes_words
+  pub table_floats : nodes_of (seen (table_of p a n o)) ≡ floats_of (words_of n nodes_words) nodes_words
   unfolding nodes_of
-  table-floats =
+  table_floats =
       part_floats (table_of p a n o) table_words nodes_first nodes_words (omega arith)
-      ∙ ap (λ (t : List ℕ). floats_of t nodes_words) table-nodes
+      ∙ ap (λ (t : List ℕ). floats_of t nodes_words) table_nodes
 
-  pub table-order : order_of (table_of p a n o) ≡ words_of o order_places
+  pub table_order : order_of (table_of p a n o) ≡ words_of o order_places
   unfolding table_of order_of
-  table-order =
+  table_order =
       part_of ((P ++ A) ++ N) O Z order_first order_places (simp (length-append, length_from))
       (length_words o order_places)
 
 -- ---- that of a call on the plan
 module _ (need : ℕ) (plan args : List ℕ) where
-  pub plan-length : length (plan_table need plan args) ≡ table_words
+  pub plan_length : length (plan_table need plan args) ≡ table_words
   unfolding plan_table
-  plan-length = table-length _ _ _ _
+  plan_length = table_length _ _ _ _
 
-  pub plan-word
+  pub plan_word
       : (i : ℕ) → i < plan_words → word_of (plan_table need plan args) i ≡ word_at (lent_of plan plan_bytes) i
   unfolding plan_table
-  plan-word = table-plan _ _ _ _
+  plan_word = table_plan _ _ _ _
 
-  pub args-word
+  pub args_word
       : (i : ℕ)
       → i < args_words
       → word_of (plan_table need plan args) (plan_words + i) ≡ word_at (lent_of args need) i
   unfolding plan_table
-  args-word = table-args _ _ _ _
+  args_word = table_args _ _ _ _
 
 -- the words after the plan are the same for any plan
 pub rest_word
@@ -169,8 +169,8 @@ rest_word need p q args i h =
     let j : ℕ = i - plan_words in
     let e : plan_words + j ≡ i = omega arith in
     ap (word_of (plan_table need p args)) (sym e)
-    ∙ table-rest _ _ _ _ j
-    ∙ sym (table-rest _ _ _ _ j)
+    ∙ table_rest _ _ _ _ j
+    ∙ sym (table_rest _ _ _ _ j)
     ∙ ap (word_of (plan_table need q args)) e
 
 -- ---- that of zero bytes
@@ -193,6 +193,6 @@ pub zero_plan
     → word_of (plan_table need (replicate k 0) args) i ≡ 0
 unfolding lent_of
 zero_plan need k args i h =
-    plan-word need (replicate k 0) args i h
+    plan_word need (replicate k 0) args i h
     ∙ either (λ (t : List ℕ). word_at t i ≡ 0) (leb plan_bytes (length (replicate k 0))) (replicate k 0) []
     (zero_word k i) (zero_word 0 i)

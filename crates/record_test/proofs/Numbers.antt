@@ -12,7 +12,7 @@ use Rattle.words.specs.Lists.{All}
 use Rattle.refusals.specs.Refusals.{unless, lower}
 use Rattle.refusals.specs.Ranges.{far, coordinates, within_up_to, radius}
 use Rattle.refusals.specs.Prims.{shape_ok, flat, prim_number}
-use Rattle.refusals.proofs.Lowest.{told, unless_zero, lower_zero, lowest-exact}
+use Rattle.refusals.proofs.Lowest.{told, unless_zero, lower_zero, lowest_exact}
 use Rattle.plan.specs.declared.QuadLight.{QuadLight}
 use Rattle.plan.specs.declared.Cutter.{Cutter}
 use Rattle.plan.specs.declared.Head.{Head}
@@ -114,4 +114,4 @@ cutter_exact c = (prim_to c.kind c.shape, prim_from c.kind c.shape)
 
 pub cuts_exact : (cs : Cuts) → (cuts_number cs ≡ 0) ↔ All CutterOk cs
 unfolding cuts_number
-cuts_exact cs = lowest-exact cutter_number CutterOk cutter_exact cs
+cuts_exact cs = lowest_exact cutter_number CutterOk cutter_exact cs

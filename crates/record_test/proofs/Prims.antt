@@ -28,41 +28,41 @@ pub above_six
 above_six k n0 n1 n2 n3 n4 n5 n6 = above_all k (above_two k n0 n1 n2) n3 n4 n5 n6
 
 module _ (a b : Vec3) (u v : Float) where
-  pub sphere-number : prim_in 0 a b u v ≡ unless bad_number (coordinates a && radius b.x)
+  pub sphere_number : prim_in 0 a b u v ≡ unless bad_number (coordinates a && radius b.x)
   unfolding prim_number shape_of shape_ok flat unless
-  sphere-number = lower_none (unless bad_number (coordinates a && radius b.x))
+  sphere_number = lower_none (unless bad_number (coordinates a && radius b.x))
 
-  pub block-number : prim_in 1 a b u v ≡ unless bad_number (coordinates a && (within_up_to b far && radius u))
+  pub block_number : prim_in 1 a b u v ≡ unless bad_number (coordinates a && (within_up_to b far && radius u))
   unfolding prim_number shape_of shape_ok flat unless
-  block-number = lower_none (unless bad_number (coordinates a && (within_up_to b far && radius u)))
+  block_number = lower_none (unless bad_number (coordinates a && (within_up_to b far && radius u)))
 
-  pub plane-number : prim_in 2 a b u v ≡ unless bad_number (within a steep && magnitude b.x far)
+  pub plane_number : prim_in 2 a b u v ≡ unless bad_number (within a steep && magnitude b.x far)
   unfolding prim_number shape_of shape_ok flat unless
-  plane-number = lower_none (unless bad_number (within a steep && magnitude b.x far))
+  plane_number = lower_none (unless bad_number (within a steep && magnitude b.x far))
 
-  pub capsule-number
+  pub capsule_number
       : prim_in 3 a b u v
       ≡ lower (unless bad_number (coordinates a && (coordinates b && radius u)))
       (unless no_extent (not (no_length (vsub b a))))
   unfolding prim_number shape_of shape_ok flat
-  capsule-number = refl
+  capsule_number = refl
 
-  pub torus-number : prim_in 4 a b u v ≡ unless bad_number (coordinates a && (radius b.x && radius b.y))
+  pub torus_number : prim_in 4 a b u v ≡ unless bad_number (coordinates a && (radius b.x && radius b.y))
   unfolding prim_number shape_of shape_ok flat unless
-  torus-number = lower_none (unless bad_number (coordinates a && (radius b.x && radius b.y)))
+  torus_number = lower_none (unless bad_number (coordinates a && (radius b.x && radius b.y)))
 
-  pub cylinder-number : prim_in 5 a b u v ≡ unless bad_number (coordinates a && (coordinates b && radius u))
+  pub cylinder_number : prim_in 5 a b u v ≡ unless bad_number (coordinates a && (coordinates b && radius u))
   unfolding prim_number shape_of shape_ok flat unless
-  cylinder-number = lower_none (unless bad_number (coordinates a && (coordinates b && radius u)))
+  cylinder_number = lower_none (unless bad_number (coordinates a && (coordinates b && radius u)))
 
-  pub cone-number
+  pub cone_number
       : prim_in 6 a b u v ≡ unless bad_number (coordinates a && (coordinates b && (radius u && radius v)))
   unfolding prim_number shape_of shape_ok flat unless
-  cone-number = lower_none (unless bad_number (coordinates a && (coordinates b && (radius u && radius v))))
+  cone_number = lower_none (unless bad_number (coordinates a && (coordinates b && (radius u && radius v))))
 
-  pub other-number : (k : ℕ) → 6 < k → prim_in k a b u v ≡ bad_number
+  pub other_number : (k : ℕ) → 6 < k → prim_in k a b u v ≡ bad_number
   unfolding prim_number shape_of shape_ok flat unless
-  other-number k h =
+  other_number k h =
       rw (
         ne_eqb k 0 (λ e. omega arith),
         ne_eqb k 1 (λ e. omega arith),
@@ -165,29 +165,29 @@ module _ (a b : Vec3) (u v : Float) (above : none_above a b u v ≡ true)
     rv a b u v _ above h,
   )
 
-  pub plain-number
+  pub plain_number
       : (k : ℕ) → k ≤ 6 → (k ≡ 2 → ⊥) → none_below a b u v (least_of k) ≡ true → prim_in k a b u v ≡ 0
   unfolding least_of within_up_to radius up_to
-  plain-number zero h n p =
-      sphere-number a b u v ∙ clean _ (both _ _ (first a b u v f0 above p) (bx a b u v f0 above p))
-  plain-number (suc zero) h n p =
-      block-number a b u v
+  plain_number zero h n p =
+      sphere_number a b u v ∙ clean _ (both _ _ (first a b u v f0 above p) (bx a b u v f0 above p))
+  plain_number (suc zero) h n p =
+      block_number a b u v
       ∙ clean _
       (both _ _ (first a b u v f0 above p)
       (both _ _ (both _ _ (bx a b u v f0 above p) (both _ _ (by a b u v f0 above p) (bz a b u v f0 above p)))
       (ru a b u v f0 above p)))
-  plain-number (suc (suc zero)) h n p = absurd (n refl)
-  plain-number (suc (suc (suc zero))) h n p =
+  plain_number (suc (suc zero)) h n p = absurd (n refl)
+  plain_number (suc (suc (suc zero))) h n p =
       let e = ends p in
-      capsule-number a b u v
+      capsule_number a b u v
       ∙ (lower_zero _ _).1 (clean _ (both _ _ e.0 (both _ _ e.1 e.2)), (unless_zero 3 _).1 apart)
-  plain-number (suc (suc (suc (suc zero)))) h n p =
-      torus-number a b u v
+  plain_number (suc (suc (suc (suc zero)))) h n p =
+      torus_number a b u v
       ∙ clean _ (both _ _ (first a b u v f0 above p) (both _ _ (bx a b u v f0 above p) (by a b u v f0 above p)))
-  plain-number (suc (suc (suc (suc (suc zero))))) h n p =
+  plain_number (suc (suc (suc (suc (suc zero))))) h n p =
       let e = ends p in
-      cylinder-number a b u v ∙ clean _ (both _ _ e.0 (both _ _ e.1 e.2))
-  plain-number (suc (suc (suc (suc (suc (suc zero)))))) h n p =
+      cylinder_number a b u v ∙ clean _ (both _ _ e.0 (both _ _ e.1 e.2))
+  plain_number (suc (suc (suc (suc (suc (suc zero)))))) h n p =
       let e = ends p in
-      cone-number a b u v ∙ clean _ (both _ _ e.0 (both _ _ e.1 (both _ _ e.2 e.3)))
-  plain-number (suc (suc (suc (suc (suc (suc (suc k))))))) h n p = absurd (omega arith)
+      cone_number a b u v ∙ clean _ (both _ _ e.0 (both _ _ e.1 (both _ _ e.2 e.3)))
+  plain_number (suc (suc (suc (suc (suc (suc (suc k))))))) h n p = absurd (omega arith)

@@ -9,7 +9,7 @@ use native.Mathlib.Numerals.{add-one}
 use native.Mathlib.Omega.{arith}
 use lib.Dec.{T, eqb, eqb-suc-zero}
 use Rattle.words.specs.Lists.{list_from, All}
-use Rattle.words.proofs.Runs.{from-snoc}
+use Rattle.words.proofs.Runs.{from_snoc}
 use Rattle.refusals.specs.Refusals.{unless, lower, lowest_of}
 
 pub told : (b : Bool) → T b ↔ (b ≡ true)
@@ -54,20 +54,20 @@ lower_assoc (suc a) (suc b) (suc c) =
 
 -- ---- the lowest of a list
 module _ {A : Type 0} (number : A → ℕ) where
-  pub lowest-snoc
+  pub lowest_snoc
       : (xs : List A) (x : A) → lowest_of number (xs ++ (x ∷ [])) ≡ lower (lowest_of number xs) (number x)
   unfolding lowest_of
-  lowest-snoc [] x = lower_none (number x) ∙ sym (lower_first (number x))
-  lowest-snoc (y ∷ xs) x = rw (lowest-snoc xs x) (lower_assoc (number y) (lowest_of number xs) (number x))
+  lowest_snoc [] x = lower_none (number x) ∙ sym (lower_first (number x))
+  lowest_snoc (y ∷ xs) x = rw (lowest_snoc xs x) (lower_assoc (number y) (lowest_of number xs) (number x))
 
-  pub lowest-exact
+  pub lowest_exact
       : (P : A → Type 0) → ((x : A) → (number x ≡ 0) ↔ P x) → (xs : List A)
       → (lowest_of number xs ≡ 0) ↔ All P xs
   unfolding lowest_of
-  lowest-exact P one [] = (λ _. tt, λ _. refl)
-  lowest-exact P one (x ∷ xs) =
+  lowest_exact P one [] = (λ _. tt, λ _. refl)
+  lowest_exact P one (x ∷ xs) =
       let q = lower_zero (number x) (lowest_of number xs) in
-      let ih = lowest-exact P one xs in (
+      let ih = lowest_exact P one xs in (
         λ e. let p = q.0 e in ((one x).0 p.0, ih.0 p.1),
         λ p. q.1 ((one x).1 p.0, ih.1 p.1),
       )
@@ -78,7 +78,7 @@ module _ {A : Type 0} (number : A → ℕ) (g : ℕ → A) (a : ℕ) where
   unfolding lowest_of list_from
   lowest_start = refl
 
-  pub lowest-more
+  pub lowest_more
       : (j : ℕ) → lowest_of number (list_from g a (j + 1)) ≡ lower (lowest_of number (list_from g a j))
       (number (g (a + j)))
-  lowest-more j = rw (add-one, from-snoc g a j, lowest-snoc number)
+  lowest_more j = rw (add-one, from_snoc g a j, lowest_snoc number)

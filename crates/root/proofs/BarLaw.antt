@@ -74,8 +74,8 @@ exact n o k i e h l g =
     split k i h = omega arith
 
 module _ (b : Float) (q : T (plain b)) where
-  sum-value : HasValue (add binary64 (below b) b) false (mid (to_bits binary32 b)) (2 ^ 149)
-  sum-value =
+  sum_value : HasValue (add binary64 (below b) b) false (mid (to_bits binary32 b)) (2 ^ 149)
+  sum_value =
       let p = to_bits binary32 b in
       let s = mid_short p (plain_small b q) in
       subst (λ (x : Float). HasValue x false (mid p) (2 ^ 149))
@@ -88,23 +88,23 @@ module _ (b : Float) (q : T (plain b)) where
       less : (p : ℕ) → p < 2139095040 → p - 1 < 2139095040
       less p h = omega arith
 
-  middle-value : HasValue (middle b) false (mid (to_bits binary32 b)) (2 ^ 150)
-  middle-value =
+  middle_value : HasValue (middle b) false (mid (to_bits binary32 b)) (2 ^ 150)
+  middle_value =
       let p = to_bits binary32 b in
       let s = mid_short p (plain_small b q) in
       subst (λ (x : Float). HasValue x false (mid p) (2 ^ 150))
       (sym (mul_value binary64 (add binary64 (below b) b) (fin false 1 (negsuc 0)) (mid p) 1 (2 ^ 149) 2 (pow_pos 149)
-      (lit< tt) sum-value (refl, refl) ∙ ap (λ (z : ℕ). round binary64 false z (2 ^ 150)) (mul-one (mid p))))
+      (lit< tt) sum_value (refl, refl) ∙ ap (λ (z : ℕ). round binary64 false z (2 ^ 150)) (mul-one (mid p))))
       (exact (mid p) s.0 s.1 150 s.2 (lt_of_lt_of_le s.3 (lit≤ tt)) (le_trans s.4 (lit≤ tt))
       (lit≤ tt))
 
-  pub bar-value : HasValue (bar b) false (mid (to_bits binary32 b) * mid (to_bits binary32 b)) (2 ^ 300)
-  bar-value =
+  pub bar_value : HasValue (bar b) false (mid (to_bits binary32 b) * mid (to_bits binary32 b)) (2 ^ 300)
+  bar_value =
       let p = to_bits binary32 b in
       let s = mid_short p (plain_small b q) in
       subst (λ (x : Float). HasValue x false (mid p * mid p) (2 ^ 300))
       (sym (mul_value binary64 (middle b) (middle b) (mid p) (mid p) (2 ^ 150) (2 ^ 150) (pow_pos 150)
-      (pow_pos 150) middle-value middle-value))
+      (pow_pos 150) middle_value middle_value))
       (exact (mid p * mid p) (s.0 * s.0) (s.1 + s.1) 300 (square (mid p) s.0 s.1 s.2)
       (small s.0 s.3) (twice s.1 s.4) (lit≤ tt))
     where
@@ -120,18 +120,18 @@ module _ (b : Float) (q : T (plain b)) where
       twice k h = omega arith
 
   -- a comparison with b of a root is one with `bar b` of what the root is of
-  pub root-bar
+  pub root_bar
       : (x : Float) → T (plain x) → (T (le b (root_of x)) → T (le (bar b) x)) × (T (le (bar b) x)
       → T (le b (root_of x)))
-  root-bar x h =
+  root_bar x h =
       let p = to_bits binary32 b in
       let r = root_reaches x b h q in (
         λ l. le_of_values (bar b) x (mid p * mid p) (2 ^ 300) (units x) (2 ^ 149) (pow_pos 300)
-            (pow_pos 149) bar-value (plain_value x h)
+            (pow_pos 149) bar_value (plain_value x h)
             (le_trans (mul-le-mul_right (2 ^ 149) (r.0 l)) (le_of_eq (mul_assoc (units x) (2 ^ 151) (2 ^ 149)))),
         λ l. r.1 (le_of_mul-le-mul_right
             (le_trans (le→fractions (bar b) x (mid p * mid p) (2 ^ 300) (units x) (2 ^ 149) (pow_pos 300)
-            (pow_pos 149) bar-value (plain_value x h) l) (le_of_eq (sym (mul_assoc (units x) (2 ^ 151) (2 ^ 149)))))
+            (pow_pos 149) bar_value (plain_value x h) l) (le_of_eq (sym (mul_assoc (units x) (2 ^ 151) (2 ^ 149)))))
             (pow_pos 149)),
       )
 
@@ -143,10 +143,10 @@ zero_le x h =
     (plain_value x h) (none (units x))
   where
     none : (n : ℕ) → 0 * 2 ^ 149 ≤ n * 1
-    none n = zero-least (n * 1)
+    none n = zero_least (n * 1)
       where
-        zero-least : (n : ℕ) → 0 ≤ n
-        zero-least n = omega arith
+        zero_least : (n : ℕ) → 0 ≤ n
+        zero_least n = omega arith
 
 -- what is plain and not above zero is zero
 not_above : (b : Float) → T (plain b) → lt (fin false 0 (pos 0)) b ≡ false → units b ≡ 0
@@ -176,7 +176,7 @@ bar_law b x q h = go (lt (fin false 0 (pos 0)) b) refl
     go : (t : Bool) → lt (fin false 0 (pos 0)) b ≡ t
         → (T (le b (root_of x)) → T (le (cond t (bar b) (fin false 0 (pos 0))) x)) ×
         (T (le (cond t (bar b) (fin false 0 (pos 0))) x) → T (le b (root_of x)))
-    go true e = root-bar b q x h
+    go true e = root_bar b q x h
     go false e = (
       λ _. zero_le x h,
       λ _. units→le b (root_of x) q (root_plain x h)

@@ -96,11 +96,11 @@ mid_below j s a e g h k = elim (eq-or-lt_of_le h) [ inl f ↦ first f | inr l �
 -- ---- half the root of N, rounded
 pub at_most : (N a : ℕ) → Nearest N a → N < 1125899906842624 → a ≤ 16777216
 at_most N a h most =
-    le-of-not (λ (g : 33554432 ≤ a + a - 1). not-le_of_lt (lt_of_le_of_lt (mul-le-mul g g) (lt_of_lt_of_le h.over
+    le_of_not (λ (g : 33554432 ≤ a + a - 1). not-le_of_lt (lt_of_le_of_lt (mul-le-mul g g) (lt_of_lt_of_le h.over
     (le_of_lt most))) (le_refl (33554432 * 33554432)))
   where
-    le-of-not : ((33554432 ≤ a + a - 1) → ⊥) → a ≤ 16777216
-    le-of-not f = omega arith
+    le_of_not : ((33554432 ≤ a + a - 1) → ⊥) → a ≤ 16777216
+    le_of_not f = omega arith
 
 pub found
     : (n N j a : ℕ) → n * 2 ^ 151 ≡ N * 2 ^ (j + j) → Nearest N a → 281474976710656 ≤ N → N < 1125899906842624
@@ -112,32 +112,32 @@ found n N j a e h least most = (
       (le_trans (le_of_eq (sym (square (suc (2 * a)) j))) (mul-le-mul above above))),
 )
   where
-    a-low : 8388608 ≤ a
-    a-low =
-        le-of-not (λ (g : a + a + 1 ≤ 16777216). not-le_of_lt (lt_of_lt_of_le h.under (mul-le-mul g g)) least)
+    a_low : 8388608 ≤ a
+    a_low =
+        le_of_not (λ (g : a + a + 1 ≤ 16777216). not-le_of_lt (lt_of_lt_of_le h.under (mul-le-mul g g)) least)
       where
-        le-of-not : ((a + a + 1 ≤ 16777216) → ⊥) → 8388608 ≤ a
-        le-of-not f = omega arith
+        le_of_not : ((a + a + 1 ≤ 16777216) → ⊥) → 8388608 ≤ a
+        le_of_not f = omega arith
 
-    a-high : a ≤ 16777216
-    a-high = at_most N a h most
+    a_high : a ≤ 16777216
+    a_high = at_most N a h most
 
     up : a + a + 1 ≤ suc (2 * a)
     up = omega arith
 
     above : suc (2 * a) * 2 ^ j ≤ mid (suc (j * 8388608 + a))
-    above = mid_above j a a-low a-high
+    above = mid_above j a a_low a_high
 
     below_by
         : (s : ℕ) → a ≡ (s + 1) / 2 → 16777216 ≤ s → s * s ≤ N
         → mid (j * 8388608 + a) * mid (j * 8388608 + a) ≤ N * 2 ^ (j + j)
     below_by s f g lo =
-        let m = mid_below j s a f g a-low a-high in
+        let m = mid_below j s a f g a_low a_high in
         le_trans (mul-le-mul m m) (le_trans (le_of_eq (square s j)) (mul-le-mul_right (2 ^ (j + j)) lo))
 
     below : mid (j * 8388608 + a) * mid (j * 8388608 + a) ≤ N * 2 ^ (j + j)
     below =
-        elim (eq-or-lt_of_le a-low) [
+        elim (eq-or-lt_of_le a_low) [
           | inl f ↦ below_by 16777216 (omega arith) (le_refl 16777216) least
           | inr l ↦ below_by (a + a - 1) (omega arith) (omega arith) (le_of_lt h.over)
         ]
@@ -201,11 +201,11 @@ module _ (b m e : ℕ) (d : m ≡ digs (b / 8388608) (b % 8388608)) (x : e ≡ e
   few : m < 16777216
   few = subst (λ (z : ℕ). z < 16777216) (sym d) (digs_lt (b / 8388608) (b % 8388608) (omega arith))
 
-  pub start-even
+  pub start_even
       : e % 2 ≡ 0
       → (m * 2 % 4294967296 < 33554432)
       × Scaled b (m * 2 % 4294967296 * 33554432) ((expo (b / 8388608) + 1) / 2 + 62)
-  start-even o =
+  start_even o =
       let p = some in
       let f = few in
       let g : m * 67108864 ≡ m * 2 % 4294967296 * 33554432 = omega arith in (
@@ -217,9 +217,9 @@ module _ (b m e : ℕ) (d : m ≡ digs (b / 8388608) (b % 8388608)) (x : e ≡ e
             }),
       )
 
-  pub start-odd
+  pub start_odd
       : (e % 2 ≡ 0 → ⊥) → (m < 33554432) × Scaled b (m * 33554432) ((expo (b / 8388608) + 1) / 2 + 62)
-  start-odd o =
+  start_odd o =
       let f = few in (
         omega arith,
         at (m * 33554432) record {

@@ -46,10 +46,10 @@ module _ (n l s b t x : ℕ) (h : Remains n l s (b + b)) (e : t ≡ (s + b) % 42
           → x + q ≡ l + l
       whole x q l f g k m = omega arith
 
-  pub word-one
+  pub word_one
       : (w v q : ℕ) → w ≡ v → v ≡ (t + b) % 4294967296 → q ≡ t * 2 % 4294967296
       → (x + q) % 4294967296 ≡ l * 2 % 4294967296 → x < 4294967296 → t ≤ l → Remains n x w b
-  word-one w v q a f g k m o =
+  word_one w v q a f g k m o =
       let c = tried in
       let d : q ≡ t + t = twice t q h.room c g in
       let y = doubled q k m (subst (λ (z : ℕ). z ≤ l + l) (sym d) (both t l o)) in

@@ -13,8 +13,8 @@ use Rattle.root.proofs.BarLaw.{exact, mul_value}
 use Rattle.root.proofs.Apart.{short}
 
 module _ (w : Float) (q : T (plain w)) where
-  square-value : HasValue (mul binary64 w w) false (units w * units w) (2 ^ 298)
-  square-value =
+  square_value : HasValue (mul binary64 w w) false (units w * units w) (2 ^ 298)
+  square_value =
       let s = short (to_bits binary32 w) (plain_small w q) in
       let e : units w ≡ s.0 * 2 ^ s.1 = plain_units w q ∙ s.2 in
       subst (λ (x : Float). HasValue x false (units w * units w) (2 ^ 298))
@@ -42,11 +42,11 @@ module _ (w : Float) (q : T (plain w)) where
         go : (n z : ℕ) → 4 * (n * z) ≡ n * (4 * z)
         go n z = omega arith
 
-    pub reach-law : T (le (mul binary64 w w) x) → T (le w (root_of x))
-    reach-law l =
+    pub reach_law : T (le (mul binary64 w w) x) → T (le w (root_of x))
+    reach_law l =
         let p = to_bits binary32 w in
         let a : units w * units w * 2 ^ 149 ≤ units x * 2 ^ 298 = le→fractions (mul binary64 w w) x (units w * units w)
-        (2 ^ 298) (units x) (2 ^ 149) (pow_pos 298) (pow_pos 149) square-value (plain_value x h) l in
+        (2 ^ 298) (units x) (2 ^ 149) (pow_pos 298) (pow_pos 149) square_value (plain_value x h) l in
         let b : units w * units w ≤ units x * 2 ^ 149 = le_of_mul-le-mul_right
         (le_trans a (le_of_eq (sym (mul_assoc (units x) (2 ^ 149) (2 ^ 149))))) (pow_pos 149) in
         let c : mid p ≤ 2 * units w = le_trans (both (val (p - 1)) (val p) (val_mono (less p)))
@@ -66,11 +66,11 @@ module _ (w : Float) (q : T (plain w)) where
         more : (a b : ℕ) → a ≤ b → 4 * a ≤ 4 * b
         more a b h = omega arith
 
-    pub stay-law : T (le x (mul binary64 w w)) → T (le (root_of x) w)
-    stay-law l =
+    pub stay_law : T (le x (mul binary64 w w)) → T (le (root_of x) w)
+    stay_law l =
         let p = to_bits binary32 w in
         let a : units x * 2 ^ 298 ≤ units w * units w * 2 ^ 149 = le→fractions x (mul binary64 w w) (units x) (2 ^ 149)
-        (units w * units w) (2 ^ 298) (pow_pos 149) (pow_pos 298) (plain_value x h) square-value l in
+        (units w * units w) (2 ^ 298) (pow_pos 149) (pow_pos 298) (plain_value x h) square_value l in
         let b : units x * 2 ^ 149 ≤ units w * units w = le_of_mul-le-mul_right
         (le_trans (le_of_eq (mul_assoc (units x) (2 ^ 149) (2 ^ 149))) a) (pow_pos 149) in
         let c : units x * 2 ^ 151 ≤ 2 * units w * (2 * units w) = le_trans (le_of_eq (sym (four (units x))))
@@ -96,7 +96,7 @@ module _ (w : Float) (q : T (plain w)) where
         past : (u v g m : ℕ) → u ≡ v → m ≡ v + (v + g) → 0 < g → 2 * u * (2 * u) < m * m
         past u v g m e k l =
             let s : suc (2 * u) ≤ m = omega arith in
-            lt_of_lt_of_le (one_more (2 * u)) (mul-le-mul s s)
+            lt_of_lt_of_le (one_more_lem (2 * u)) (mul-le-mul s s)
           where
-            one_more : (a : ℕ) → a * a < suc a * suc a
-            one_more a = omega arith
+            one_more_lem : (a : ℕ) → a * a < suc a * suc a
+            one_more_lem a = omega arith

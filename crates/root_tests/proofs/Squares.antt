@@ -18,9 +18,9 @@ use Rattle.root.specs.Inside.Bar.{bar, bar_of, apart_by}
 use Rattle.root.proofs.Nans.{unequal_nan}
 use Rattle.root.proofs.Laws.{root_plain}
 use Rattle.root.proofs.Order.{le→units, units→le}
-use Rattle.root.proofs.BarLaw.{bar_law, bar-value}
+use Rattle.root.proofs.BarLaw.{bar_law, bar_value}
 use Rattle.root.proofs.Apart.{apart_law}
-use Rattle.root.proofs.Reach.{reach-law, stay-law}
+use Rattle.root.proofs.Reach.{reach_law, stay_law}
 use Rattle.scalar.specs.F32.{f0}
 use Rattle.float_order.specs.Inside.Order.{number, zero_f, clear}
 use Rattle.float_order.proofs.Order.{yes_of, is_yes, is_not, not_of, same_test, at_most→le, bottom_le, le_left}
@@ -128,7 +128,7 @@ reached_plain q (inf s) p f l =
 reached_plain q (fin true m e) p f l =
     le_trans (fin true m e) zero_f (root_of q) (at_most→le (fin true m e) zero_f tt tt (omega arith))
     (plain_plus (root_of q) (root_plain q p))
-reached_plain q (fin false m e) p f l = reach-law (fin false m e) f q p l
+reached_plain q (fin false m e) p f l = reach_law (fin false m e) f q p l
 
 -- no square is below zero, so q is not
 pub reached
@@ -150,7 +150,7 @@ reached q w f g k l =
 pub stayed
     : (q w : Float) → T (plain q) → T (plain w) → le q (mul binary64 w w) ≡ true
     → T (finite (root_of q)) × T (le (root_of q) w)
-stayed q w p h l = (plain_finite (root_of q) (root_plain q p), stay-law w h q p (yes_of l))
+stayed q w p h l = (plain_finite (root_of q) (root_plain q p), stay_law w h q p (yes_of l))
 
 -- ---- a root against a bound
 value_number : (x : Float) (a c : ℕ) → HasValue x false a c → T (number x)
@@ -159,13 +159,13 @@ value_number (inf s) a c h = absurd h
 value_number (fin s m e) a c h = tt
 
 module _ (d : Float) (q : T (plain d)) (h : T (lt zero_f d)) where
-  bar-number : T (number (bar_of d))
+  bar_number : T (number (bar_of d))
   unfolding bar_of
-  bar-number = let e : lt zero_f d ≡ true = is_yes h in rw e (value_number (bar d) _ _ (bar-value d q))
+  bar_number = let e : lt zero_f d ≡ true = is_yes h in rw e (value_number (bar d) _ _ (bar_value d q))
 
-  bar-positive : T (lt zero_f (bar_of d))
-  bar-positive =
-      lt_of_not_le zero_f (bar_of d) tt bar-number
+  bar_positive : T (lt zero_f (bar_of d))
+  bar_positive =
+      lt_of_not_le zero_f (bar_of d) tt bar_number
       (λ l. lt_not_le zero_f d h (subst (λ (z : Float). T (le d z)) zero_root ((bar_law d zero_f q zero_fits).1 l)))
 
   over : (s : Float) → T (fits binary32 s) → T (clear s) → T (le (bar_of d) s) → T (le d (root_of s))
@@ -179,16 +179,16 @@ module _ (d : Float) (q : T (plain d)) (h : T (lt zero_f d)) where
   unfolding root_of
   under nan f l = absurd (le_right d nan l)
   under (inf true) f l = absurd (le_right d nan l)
-  under (inf false) f l = le_top (bar_of d) bar-number
+  under (inf false) f l = le_top (bar_of d) bar_number
   under (fin true zero e) f l = absurd (positive_clear (fin true zero e) (lt_le_trans zero_f d (fin true zero e) h l))
   under (fin true (suc m) e) f l = absurd (le_right d nan l)
   under (fin false m e) f l = (bar_law d (fin false m e) q f).0 l
 
   -- for every s whatever
-  far-by-bar : (s : Float) → T (fits binary32 s) → le (bar_of d) s ≡ le d (root_of s)
-  far-by-bar s f =
+  far_by_bar : (s : Float) → T (fits binary32 s) → le (bar_of d) s ≡ le d (root_of s)
+  far_by_bar s f =
       same_test (le (bar_of d) s) (le d (root_of s))
-      (λ l. over s f (positive_clear s (lt_le_trans zero_f (bar_of d) s bar-positive l)) l) (under s f)
+      (λ l. over s f (positive_clear s (lt_le_trans zero_f (bar_of d) s bar_positive l)) l) (under s f)
 
 -- the infinity is its own bar, and reached by its own root alone
 top_bar : bar_of (inf false) ≡ inf false
@@ -240,7 +240,7 @@ positive_bound nan s fs fd h = absurd (unfold lt in h)
 positive_bound (inf true) s fs fd h = absurd (positive_clear (inf true) h)
 positive_bound (inf false) s fs fd h = rw top_bar (top_bound s fs)
 positive_bound (fin true m e) s fs fd h = absurd (positive_clear (fin true m e) h)
-positive_bound (fin false m e) s fs fd h = far-by-bar (fin false m e) fd h s fs
+positive_bound (fin false m e) s fs fd h = far_by_bar (fin false m e) fd h s fs
 
 pub far_by_limit : (s d : Float) → T (fits binary32 s) → T (fits binary32 d) → le (limit_of d) s ≡ far_off s d
 unfolding limit_of far_off
@@ -264,11 +264,11 @@ plain_apart
 plain_apart l r p q h k =
     lt_of_not_le (root_of l) (root_of r) (plain_number (root_of l) (root_plain l p))
     (plain_number (root_of r) (root_plain r q))
-    (λ g. not-le_of_lt (apart_law l r p q (lt-of-not (units l) (units r) (λ j. lt_not_le l r h (units→le r l q p j))) k)
+    (λ g. not-le_of_lt (apart_law l r p q (lt_of_not (units l) (units r) (λ j. lt_not_le l r h (units→le r l q p j))) k)
     (le→units (root_of r) (root_of l) (root_plain r q) (root_plain l p) g))
   where
-    lt-of-not : (a b : ℕ) → (b ≤ a → ⊥) → a < b
-    lt-of-not a b f = nat.lt_of_not_le f
+    lt_of_not : (a b : ℕ) → (b ≤ a → ⊥) → a < b
+    lt_of_not a b f = nat.lt_of_not_le f
 
 -- and of any r above it
 Clear-apart
@@ -292,23 +292,23 @@ roots_apart l r f g h j k =
     let p : T (lt zero_f r) = le_lt_trans zero_f l r h j in
     let c : T (clear r) = positive_clear r p in
     ⊎_elim
-    (λ d. Clear-apart l r (finite-plain l r f d j) g c j k)
+    (λ d. Clear-apart l r (finite_plain l r f d j) g c j k)
     (λ q. rw q.0 (le_lt_trans l zero_f (root_of r) q.1 (subst (λ (z : Float). T (lt z (root_of r))) zero_root
     (Clear-apart zero_f r zero_fits g c p (rw no_more (lt_le zero_f r p))))))
     (sort l h)
   where
-    finite-plain : (l r : Float) → T (fits binary32 l) → T (clear l) → T (lt l r) → T (plain l)
-    finite-plain nan r f d j = absurd d
-    finite-plain (inf true) r f d j = absurd d
-    finite-plain (inf false) r f d j = absurd (lt_not_le (inf false) r j (le_top r (lt_right (inf false) r j)))
-    finite-plain (fin true m e) r f d j = absurd d
-    finite-plain (fin false m e) r f d j = f
+    finite_plain : (l r : Float) → T (fits binary32 l) → T (clear l) → T (lt l r) → T (plain l)
+    finite_plain nan r f d j = absurd d
+    finite_plain (inf true) r f d j = absurd d
+    finite_plain (inf false) r f d j = absurd (lt_not_le (inf false) r j (le_top r (lt_right (inf false) r j)))
+    finite_plain (fin true m e) r f d j = absurd d
+    finite_plain (fin false m e) r f d j = f
 
 module _ (l r : Float) (fl : T (fits binary32 l)) (fr : T (fits binary32 r)) (hl : T (le zero_f l))
     (hr : T (le zero_f r)) where
-  pub right-first : le r l ≡ true → false ≡ left_first l r
+  pub right_first : le r l ≡ true → false ≡ left_first l r
   unfolding left_first
-  right-first e = sym (is_not (λ h. lt_not_le (root_of l) (root_of r) h (root_le r l fr fl hr (yes_of e))))
+  right_first e = sym (is_not (λ h. lt_not_le (root_of l) (root_of r) h (root_le r l fr fl hr (yes_of e))))
 
   pub parted : le r l ≡ false → le (mul binary64 l apart_by) r ≡ true → true ≡ left_first l r
   unfolding left_first

@@ -25,7 +25,7 @@ use Rattle.float_order.proofs.Rounding.{add_plus_number, sub_mono, sub_number', 
 use Rattle.float_order.proofs.Rounding.{square_up, square_neg, zero_zero, finite_mul_number, sum_numbers, less_numbers}
 use Rattle.float_order.proofs.Roots.{root_fits}
 use Rattle.sdf_caps.specs.Inside.Caps.{sq, lesser, not_below, past_end, cbx_at, cone_square, cone_by, Ends, Sides}
-use Rattle.sdf_caps.proofs.Laws.{above, opened, once, root-reach, square_above, finite_root, sum_finite}
+use Rattle.sdf_caps.proofs.Laws.{above, opened, once, root_reach, square_above, finite_root, sum_finite}
 use Rattle.sdf_caps.proofs.Laws.{zero_sum, zero_square}
 
 -- ---- what a number is made of
@@ -50,22 +50,22 @@ none_square x n = rw zero_square (square_up binary32 x n)
 
 -- ---- the lesser of two above zero
 module _ (a b : Float) (p : T (lt zero_f a)) (q : T (lt zero_f b)) where
-  lesser-left : T (le (lesser a b) a)
-  lesser-left = go (lt a b) refl
+  lesser_left : T (le (lesser a b) a)
+  lesser_left = go (lt a b) refl
     where
       go : (t : Bool) → lt a b ≡ t → T (le (cond t a b) a)
       go true e = le_refl a (lt_right zero_f a p)
       go false e = le_of_not_lt b a (lt_right zero_f b q) (lt_right zero_f a p) (not_of e)
 
-  lesser-right : T (le (lesser a b) b)
-  lesser-right = go (lt a b) refl
+  lesser_right : T (le (lesser a b) b)
+  lesser_right = go (lt a b) refl
     where
       go : (t : Bool) → lt a b ≡ t → T (le (cond t a b) b)
       go true e = lt_le a b (yes_of e)
       go false e = le_refl b (lt_right zero_f b q)
 
-  lesser-up : T (lt zero_f (lesser a b))
-  lesser-up = go (lt a b)
+  lesser_up : T (lt zero_f (lesser a b))
+  lesser_up = go (lt a b)
     where
       go : (t : Bool) → T (lt zero_f (cond t a b))
       go true = p
@@ -82,9 +82,9 @@ pub ends_past
 ends_past paba cay c e is h k ise =
     let p = above c h in
     let q = above cay k in
-    let u = lesser-up c cay p q in
+    let u = lesser_up c cay p q in
     subst (Ends paba cay) (sym ise) (record {
-      cap = λ n. square_mono binary32 (lesser c cay) cay (lt_le zero_f (lesser c cay) u) (lesser-right c cay p q);
+      cap = λ n. square_mono binary32 (lesser c cay) cay (lt_le zero_f (lesser c cay) u) (lesser_right c cay p q);
       side = λ f l m n. side f l m n;
       none = λ n. absurd (lt_not_le zero_f cay q (lt_le cay zero_f (subst (λ (z : Float). T (lt cay z)) zero_is n)));
     })
@@ -95,10 +95,10 @@ ends_past paba cay c e is h k ise =
     side f l m n = go (lt paba fhalf) is
       where
         low : T (lt zero_f (lesser c cay))
-        low = lesser-up c cay (above c h) (above cay k)
+        low = lesser_up c cay (above c h) (above cay k)
 
         by : T (le (lesser c cay) c)
-        by = lesser-left c cay (above c h) (above cay k)
+        by = lesser_left c cay (above c h) (above cay k)
 
         num : T (number paba)
         num = (less_numbers binary32 paba f n).0
@@ -209,27 +209,27 @@ module _ (x o ra rb : Float) (small : T (finite x)) (reach : T (le o x))
   abbrev z : Float
   z = lesser (o ⊖ fmax ra rb) (o ⊖ ra ⊖ not_below (rb ⊖ ra))
 
-  z-up : T (lt zero_f z)
-  z-up = lesser-up (o ⊖ fmax ra rb) (o ⊖ ra ⊖ not_below (rb ⊖ ra)) p q
+  z_up : T (lt zero_f z)
+  z_up = lesser_up (o ⊖ fmax ra rb) (o ⊖ ra ⊖ not_below (rb ⊖ ra)) p q
 
   by : T (number (o ⊖ ra)) × T (number (not_below (rb ⊖ ra)))
   by = less_numbers binary32 (o ⊖ ra) (not_below (rb ⊖ ra)) (lt_right zero_f (o ⊖ ra ⊖ not_below (rb ⊖ ra)) q)
 
-  ra-number : T (number ra)
-  ra-number = (less_numbers binary32 o ra by.0).1
+  ra_number : T (number ra)
+  ra_number = (less_numbers binary32 o ra by.0).1
 
-  rb-number : T (number rb)
-  rb-number = (less_numbers binary32 rb ra (whole_number (rb ⊖ ra) by.1)).0
+  rb_number : T (number rb)
+  rb_number = (less_numbers binary32 rb ra (whole_number (rb ⊖ ra) by.1)).0
 
   squares : (y : Float) → T (le z y) → T (le (sq z) (sq y))
-  squares y h = square_mono binary32 z y (lt_le zero_f z z-up) h
+  squares y h = square_mono binary32 z y (lt_le zero_f z z_up) h
 
   end : (r : Float) → T (number r) → T (le r (fmax ra rb)) → T (le (sq z) (sq (fmax f0 (x ⊖ r))))
   end r n h =
       let k = sub_number' binary32 x r small n in
       squares (fmax f0 (x ⊖ r))
       (le_trans z (o ⊖ fmax ra rb) (fmax f0 (x ⊖ r))
-      (lesser-left (o ⊖ fmax ra rb) (o ⊖ ra ⊖ not_below (rb ⊖ ra)) p q)
+      (lesser_left (o ⊖ fmax ra rb) (o ⊖ ra ⊖ not_below (rb ⊖ ra)) p q)
       (le_trans (o ⊖ fmax ra rb) (x ⊖ r) (fmax f0 (x ⊖ r))
       (sub_mono binary32 o x (fmax ra rb) r reach h (lt_right zero_f (o ⊖ fmax ra rb) p) k) (fmax_right f0 (x ⊖ r) k)))
 
@@ -239,22 +239,22 @@ module _ (x o ra rb : Float) (small : T (finite x)) (reach : T (le o x))
   side f h k n =
       let w = less_numbers binary32 (x ⊖ ra) (f ⊗ (rb ⊖ ra)) n in
       le_trans z (o ⊖ ra ⊖ not_below (rb ⊖ ra)) (cbx_at x ra (rb ⊖ ra) f)
-      (lesser-right (o ⊖ fmax ra rb) (o ⊖ ra ⊖ not_below (rb ⊖ ra)) p q)
+      (lesser_right (o ⊖ fmax ra rb) (o ⊖ ra ⊖ not_below (rb ⊖ ra)) p q)
       (sub_mono binary32 (o ⊖ ra) (x ⊖ ra) (not_below (rb ⊖ ra)) (f ⊗ (rb ⊖ ra))
-      (sub_mono binary32 o x ra ra reach (le_refl ra ra-number) by.0 w.0)
+      (sub_mono binary32 o x ra ra reach (le_refl ra ra_number) by.0 w.0)
       (share f (rb ⊖ ra) h k (sub-fits binary32 rb ra) w.1) (lt_right zero_f (o ⊖ ra ⊖ not_below (rb ⊖ ra)) q) n)
 
   past : Sides x ra rb (rb ⊖ ra) z
   past = record {
-    first = end ra ra-number (fmax_left ra rb ra-number);
-    last = end rb rb-number (fmax_right ra rb rb-number);
+    first = end ra ra_number (fmax_left ra rb ra_number);
+    last = end rb rb_number (fmax_right ra rb rb_number);
     side = λ f h k n. squares (cbx_at x ra (rb ⊖ ra) f) (side f h k n);
     none = λ f h k n. absurd (under f (side f h k (lt_left (cbx_at x ra (rb ⊖ ra) f) f0 n)) n);
   }
     where
       under : (f : Float) → T (le z (cbx_at x ra (rb ⊖ ra) f)) → T (lt (cbx_at x ra (rb ⊖ ra) f) f0) → ⊥
       under f g n =
-          lt_not_le zero_f z z-up (lt_le z zero_f (le_lt_trans z (cbx_at x ra (rb ⊖ ra) f) zero_f g
+          lt_not_le zero_f z z_up (lt_le z zero_f (le_lt_trans z (cbx_at x ra (rb ⊖ ra) f) zero_f g
           (subst (λ (u : Float). T (lt (cbx_at x ra (rb ⊖ ra) f) u)) zero_is n)))
 
 pub sides_past
@@ -348,22 +348,22 @@ module _ (x paba cay b ra rb rba z e : Float) (ends : Ends paba cay e) (sides : 
   abbrev cbx : Float
   cbx = cbx_at x ra rba foot
 
-  e-number : T (number e)
-  e-number =
+  e_number : T (number e)
+  e_number =
       (product_numbers e e (product_numbers (sq e) b
       (finite_number (sq e ⊗ b) (sum_finite (sq z) (sq e ⊗ b) f))).0).0
 
-  on-side : T (number cbx) → T (le f0 foot) × T (le foot f1)
+  on_side : T (number cbx) → T (le f0 foot) × T (le foot f1)
   unfolding cone_foot
-  on-side n = foot_range _ (product_numbers foot rba (less_numbers binary32 (x ⊖ ra) (foot ⊗ rba) n).1).0
+  on_side n = foot_range _ (product_numbers foot rba (less_numbers binary32 (x ⊖ ra) (foot ⊗ rba) n).1).0
 
   grown : (a y : Float) → T (le zero_f a) → T (le (sq z) a) → T (number y) → T (le (sq e) (sq y))
       → T (le (sq z ⊕ sq e ⊗ b) (a ⊕ sq y ⊗ b))
   grown a y q h n k =
       let u = times_number (sq y) b (square_up binary32 y n) fb pb in
-      let g : T (le (sq e ⊗ b) (sq y ⊗ b)) = mul_mono binary32 (sq e) (sq y) b b (square_up binary32 e e-number) k
+      let g : T (le (sq e ⊗ b) (sq y ⊗ b)) = mul_mono binary32 (sq e) (sq y) b b (square_up binary32 e e_number) k
       (lt_le zero_f b pb) (le_refl b (finite_number b fb))
-      (times_number (sq e) b (square_up binary32 e e-number) fb pb) u in
+      (times_number (sq e) b (square_up binary32 e e_number) fb pb) u in
       add_mono binary32 (sq z) a (sq e ⊗ b) (sq y ⊗ b) h g (finite_number (sq z ⊕ sq e ⊗ b) f)
       (add_plus_number binary32 a (sq y ⊗ b) q
       (mul_plus binary32 (sq y) b (square_up binary32 y n) (lt_le zero_f b pb) u))
@@ -372,9 +372,9 @@ module _ (x paba cay b ra rb rba z e : Float) (ends : Ends paba cay e) (sides : 
   ended true = sides.first
   ended false = sides.last
 
-  pub cone-low : T (le (sq z ⊕ sq e ⊗ b) (cone_square x paba cay b ra rb rba))
+  pub cone_low : T (le (sq z ⊕ sq e ⊗ b) (cone_square x paba cay b ra rb rba))
   unfolding cone_end
-  cone-low =
+  cone_low =
       let cax = fmax f0 (x ⊖ cond (lt paba fhalf) ra rb) in
       fmin_bound (sq z ⊕ sq e ⊗ b) (sq cax ⊕ sq cay ⊗ b) (sq cbx ⊕ sq (paba ⊖ foot) ⊗ b)
       (grown (sq cax) cay (square_up binary32 cax (cax_number x (cond (lt paba fhalf) ra rb)))
@@ -384,17 +384,17 @@ module _ (x paba cay b ra rb rba z e : Float) (ends : Ends paba cay e) (sides : 
       let c : T (number cbx) = (product_numbers cbx cbx m.0).0 in
       let y : T (number (paba ⊖ foot)) = (product_numbers (paba ⊖ foot) (paba ⊖ foot)
       (product_numbers (sq (paba ⊖ foot)) b m.1).0).0 in
-      let r = on-side c in
+      let r = on_side c in
       grown (sq cbx) (paba ⊖ foot) (square_up binary32 cbx c) (sides.side foot r.0 r.1 c) y
       (ends.side foot r.0 r.1 y))
 
-  pub cone-out : cone_sign cbx cay ≡ f1
+  pub cone_out : cone_sign cbx cay ≡ f1
   unfolding cone_sign
-  cone-out = go (lt cbx f0) (lt cay f0) refl refl
+  cone_out = go (lt cbx f0) (lt cay f0) refl refl
     where
       never : T (lt cbx f0) → T (lt cay f0) → ⊥
       never h k =
-          let r = on-side (lt_left cbx f0 h) in
+          let r = on_side (lt_left cbx f0 h) in
           lt_not_le zero_f (sq z ⊕ sq e ⊗ b) p
           (rw (sides.none foot r.0 r.1 h, ends.none k) (none_low b fb))
 
@@ -410,7 +410,7 @@ tested
 tested l d s w t fl fd h low k reach is =
     let u = opened w low in
     rw (is, one_is, once (root_of d) (root_fits d fd))
-    (le_trans t w (root_of d) k (root-reach l d w fl fd reach.0 reach.1 u h))
+    (le_trans t w (root_of d) k (root_reach l d w fl fd reach.0 reach.1 u h))
 
 pub by_bounds
     : (x paba cay b ra rb rba z e w t : Float) → Ends paba cay e → Sides x ra rb rba z → T (lt f0 w)
@@ -425,8 +425,8 @@ by_bounds x paba cay b ra rb rba z e w t ends sides low sure reach =
     (le_refl l (finite_number l f)) in
     let pb = opened b sure.1 in
     tested l (cone_square x paba cay b ra rb rba) (cone_sign (cbx_at x ra rba (cone_foot x paba b ra rba)) cay) w t fl
-    (cone_fits x paba cay b ra rb rba) (cone-low x paba cay b ra rb rba z e ends sides sure.0 pb sure.2 f p) low
-    sure.3 reach (cone-out x paba cay b ra rb rba z e ends sides sure.0 pb sure.2 f p)
+    (cone_fits x paba cay b ra rb rba) (cone_low x paba cay b ra rb rba z e ends sides sure.0 pb sure.2 f p) low
+    sure.3 reach (cone_out x paba cay b ra rb rba z e ends sides sure.0 pb sure.2 f p)
 
 minus_one : T (lt f0 (neg f1)) → ⊥
 unfolding lt neg of_bits

@@ -107,18 +107,18 @@ above_square d f h =
 -- ---- from a lower bound l of the square d, whose root reaches w, to one of the distance
 module _ (l d w : Float) (fl : T (fits binary32 l)) (fd : T (fits binary32 d)) (small : T (finite (root_of l)))
     (reach : T (le w (root_of l))) (up : T (lt zero_f w)) (h : T (le l d)) where
-  pub root-reach : T (le w (root_of d))
-  root-reach = le_trans w (root_of l) (root_of d) reach (root_le l d fl fd (finite_root_plus l small) h)
+  pub root_reach : T (le w (root_of d))
+  root_reach = le_trans w (root_of l) (root_of d) reach (root_le l d fl fd (finite_root_plus l small) h)
 
   pub square_above : T (lt zero_f d)
   square_above =
       lt_of_not_le zero_f d tt (le_right l d h)
-      (λ g. lt_not_le zero_f w up (le_trans w (root_of d) zero_f root-reach
+      (λ g. lt_not_le zero_f w up (le_trans w (root_of d) zero_f root_reach
       (subst (λ (z : Float). T (le (root_of d) z)) zero_root
       (root_le d zero_f fd zero_fits (le_trans zero_f l d (finite_root_plus l small) h) g))))
 
   pub signed : T (le w (signum_of d ⊗ root_of (abs_of d)))
-  signed = rw (above_square d fd square_above) root-reach
+  signed = rw (above_square d fd square_above) root_reach
 
 over_number : (s b : Float) → T (number s) → T (finite b) → T (lt zero_f b) → T (number (s ⊘ b))
 over_number nan b n f h = absurd n
@@ -165,11 +165,11 @@ passes q o rb f h e =
     let r : T (number rb) = (less_numbers binary32 o rb n).1 in
     let g : T (le (o ⊖ rb) (root_of q ⊖ rb)) = sub_mono binary32 o (root_of q) rb rb h (le_refl rb r) n
     (sub_number' binary32 (root_of q) rb f r) in
-    let k : lt f0 (root_of q ⊖ rb) ≡ true = is-above (root_of q ⊖ rb) (lt_le_trans zero_f (o ⊖ rb) (root_of q ⊖ rb) p g) in
+    let k : lt f0 (root_of q ⊖ rb) ≡ true = is_above (root_of q ⊖ rb) (lt_le_trans zero_f (o ⊖ rb) (root_of q ⊖ rb) p g) in
     rw k (square_mono binary32 (o ⊖ rb) (root_of q ⊖ rb) (lt_le zero_f (o ⊖ rb) p) g)
   where
-    is-above : (x : Float) → T (lt zero_f x) → lt f0 x ≡ true
-    is-above x h = rw zero_is (go (lt zero_f x) h)
+    is_above : (x : Float) → T (lt zero_f x) → lt f0 x ≡ true
+    is_above x h = rw zero_is (go (lt zero_f x) h)
       where
         go : (b : Bool) → T b → b ≡ true
         go true t = refl

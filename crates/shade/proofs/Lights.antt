@@ -13,7 +13,7 @@ use mir.Syntax.{w32}
 use mir.Val.{Fits}
 use Rattle.scalar.specs.F32.{f1e_4, f1e_6}
 use Rattle.words.specs.Lists.{list_from}
-use Rattle.words.proofs.Runs.{from-snoc, length_from}
+use Rattle.words.proofs.Runs.{from_snoc, length_from}
 use Rattle.vec.specs.declared.Vec3.{Vec3}
 use Rattle.plan.specs.declared.Material.{Material}
 use Rattle.plan.specs.declared.QuadLight.{QuadLight}
@@ -21,7 +21,7 @@ use Rattle.plan.specs.Sections.{lights}
 use Rattle.plan.specs.Records.{light_in}
 use Rattle.plan.specs.Plan.{plan_of, count_of}
 use Rattle.trace.specs.Trace.{Field}
-use Rattle.trace.proofs.Shadows.{shadow-count, shadow-few}
+use Rattle.trace.proofs.Shadows.{shadow_count, shadow_few}
 use Rattle.panel.specs.declared.Panel.{Panel}
 use Rattle.reach.specs.declared.Site.{Site}
 use Rattle.reach.specs.declared.Sight.{Sight}
@@ -54,7 +54,7 @@ panels_few w = omega arith
 -- ---- evaluations
 shadow_most : (field : Field) (s : Site) (to : Vec3) (radius : Float) → (shadow_at field s to radius).count ≤ 96
 unfolding shadow_at
-shadow_most field s to radius = rw shadow-count (shadow-few _ _ _ _ _ _)
+shadow_most field s to radius = rw shadow_count (shadow_few _ _ _ _ _ _)
 
 reach_most
     : (field : Field) (s : Site) (a : Panel) (shine : Sight → Vec3) (out : Vec3)
@@ -78,43 +78,43 @@ module _ (step : Vec3 → QuadLight → Lit) where
   abbrev more : Lit → QuadLight → Lit
   more r l = record { light = (step r.light l).light; count = r.count + (step r.light l).count }
 
-  lights-snoc
+  lights_snoc
       : (ls : List QuadLight) (l : QuadLight) (out : Vec3) (made : ℕ)
       → lights_by step (ls ++ (l ∷ [])) out made ≡ more (lights_by step ls out made) l
   unfolding lights_by
-  lights-snoc [] l out made = refl
-  lights-snoc (x ∷ ls) l out made = lights-snoc ls l (step out x).light (made + (step out x).count)
+  lights_snoc [] l out made = refl
+  lights_snoc (x ∷ ls) l out made = lights_snoc ls l (step out x).light (made + (step out x).count)
 
   abbrev Few : Type 0
   Few = (out : Vec3) (l : QuadLight) → (step out l).count ≤ 96
 
-  lights-count
+  lights_count
       : Few → (ls : List QuadLight) (out : Vec3) (made : ℕ)
       → (lights_by step ls out made).count ≤ made + 96 * length ls
   unfolding lights_by
-  lights-count few [] out made = omega arith
-  lights-count few (l ∷ ls) out made =
-      omega (arith, few out l, lights-count few ls (step out l).light (made + (step out l).count))
+  lights_count few [] out made = omega arith
+  lights_count few (l ∷ ls) out made =
+      omega (arith, few out l, lights_count few ls (step out l).light (made + (step out l).count))
 
-  lights-all : Few → (ls : List QuadLight) (out : Vec3) → (lights_by step ls out 0).count ≤ 96 * length ls
-  lights-all few ls out = omega (arith, lights-count few ls out 0)
+  lights_all : Few → (ls : List QuadLight) (out : Vec3) → (lights_by step ls out 0).count ≤ 96 * length ls
+  lights_all few ls out = omega (arith, lights_count few ls out 0)
 
   -- a loop over a list of a function of the index: at its start, at a turn, and what its counts come to
   module _ (g : ℕ → QuadLight) (out : Vec3) where
     abbrev after : ℕ → Lit
     after j = lights_by step (list_from g 0 j) out 0
 
-    pub lit-none : record { light = out; count = 0 } ≡ after 0
+    pub lit_none : record { light = out; count = 0 } ≡ after 0
     unfolding lights_by list_from
-    lit-none = refl
+    lit_none = refl
 
     module _ (j : ℕ) (r x : Lit) (e : r ≡ after j) (q : x ≡ step r.light (g j)) where
-      pub lit-more : record { light = x.light; count = r.count + x.count } ≡ after (j + 1)
-      lit-more = rw (add-one, from-snoc g 0 j, lights-snoc, zero-add, sym e, sym q)
+      pub lit_more : record { light = x.light; count = r.count + x.count } ≡ after (j + 1)
+      lit_more = rw (add-one, from_snoc g 0 j, lights_snoc, zero-add, sym e, sym q)
 
-      pub lit-fits : Few → j < 16 → Fits w32 (r.count + x.count)
-      lit-fits few h =
-          let a : r.count ≤ 96 * j = rw e (omega (arith, lights-all few (list_from g 0 j) out, length_from g 0 j)) in
+      pub lit_fits : Few → j < 16 → Fits w32 (r.count + x.count)
+      lit_fits few h =
+          let a : r.count ≤ 96 * j = rw e (omega (arith, lights_all few (list_from g 0 j) out, length_from g 0 j)) in
           let b : x.count ≤ 96 = rw q (few r.light (g j)) in
           record { fits = omega arith }
 
@@ -135,10 +135,10 @@ pub direct_diffuse_count
     : (field : Field) (ls : List QuadLight) (p n albedo : Vec3)
     → (direct_diffuse_of field ls p n albedo).count ≤ 96 * length ls
 unfolding direct_diffuse_of
-direct_diffuse_count field ls p n albedo = lights-all _ (diffuse_most field _ albedo) ls _
+direct_diffuse_count field ls p n albedo = lights_all _ (diffuse_most field _ albedo) ls _
 
 pub direct_count
     : (field : Field) (ls : List QuadLight) (p n v : Vec3) (m : Material)
     → (direct_of field ls p n v m).count ≤ 96 * length ls
 unfolding direct_of
-direct_count field ls p n v m = lights-all _ (step_most field _ _) ls _
+direct_count field ls p n v m = lights_all _ (step_most field _ _) ls _

@@ -44,7 +44,7 @@ module _ (field : Field) (ro rd : Vec3) (tmax : Float) where
   onward left = follow (λ (h : Hit). []) [] (λ (next : Float). march_points field ro rd tmax left next)
 
   -- ---- the code's loop: a turn, and its end
-  pub march-turn
+  pub march_turn
       : (t : Float) (steps : ℕ) (whole : Traced)
       → steps < 128
       → march field ro rd tmax (128 - steps) t steps ≡ whole
@@ -52,20 +52,20 @@ module _ (field : Field) (ro rd : Vec3) (tmax : Float) where
       → s ≡ at t
       → going (128 - (steps + 1)) (steps + 1) s ≡ whole
   unfolding march
-  march-turn t steps whole h e s q =
+  march_turn t steps whole h e s q =
       let l : 128 - steps ≡ suc (128 - (steps + 1)) = omega arith in
       rw (q, add-one) (rw (l, add-one) at e)
 
-  pub march-spent
+  pub march_spent
       : (t : Float) (steps : ℕ) (whole : Traced)
       → 128 ≤ steps
       → march field ro rd tmax (128 - steps) t steps ≡ whole
       → Missed steps ≡ whole
   unfolding march
-  march-spent t steps whole h e = let l : 128 - steps ≡ 0 = omega arith in rw l at e
+  march_spent t steps whole h e = let l : 128 - steps ≡ 0 = omega arith in rw l at e
 
   -- ---- what holds of every march and its points
-  march-each
+  march_each
       : (P : ℕ → Float → ℕ → Traced → List Vec3 → Type 0)
       → ((t : Float) (made : ℕ) → P 0 t made (Missed made) [])
       → ((left : ℕ) (t : Float) (made : ℕ) (h : Hit)
@@ -81,21 +81,21 @@ module _ (field : Field) (ro rd : Vec3) (tmax : Float) where
       → (left : ℕ) (t : Float) (made : ℕ)
       → P left t made (march field ro rd tmax left t made) (march_points field ro rd tmax left t)
   unfolding march march_points follow
-  march-each P spent found past on zero t made = spent t made
-  march-each P spent found past on (suc left) t made =
+  march_each P spent found past on zero t made = spent t made
+  march_each P spent found past on (suc left) t made =
       elim (at t) as
       (λ (s : Step).
       at t ≡ s → P (suc left) t made (going left (suc made) s) (point_at ro rd t ∷ onward left s)) [
         | Found h ↦ found left t made h
         | Past ↦ past left t made
-        | On n ↦ λ e. on left t made n _ _ e (march-each P spent found past on left n (suc made))
+        | On n ↦ λ e. on left t made n _ _ e (march_each P spent found past on left n (suc made))
       ]
       refl
 
   -- ---- a hit is one
-  found-is : (t : Float) (h : Hit) → at t ≡ Found h → Surface field ro rd h
+  found_is : (t : Float) (h : Hit) → at t ≡ Found h → Surface field ro rd h
   unfolding stepped_of
-  found-is t h = go (lt here.d (eps_of t)) (lt tmax (t ⊕ here.d)) refl
+  found_is t h = go (lt here.d (eps_of t)) (lt tmax (t ⊕ here.d)) refl
     where
       here : DistHit
       here = field (point_at ro rd t)
@@ -113,10 +113,10 @@ module _ (field : Field) (ro rd : Vec3) (tmax : Float) where
       go false false r q = never (cc)
 
 module _ (field : Field) (ro rd : Vec3) (tmin tmax : Float) where
-  pub trace-count : steps_in (trace_of field ro rd tmin tmax) ≡ length (trace_points field ro rd tmin tmax)
+  pub trace_count : steps_in (trace_of field ro rd tmin tmax) ≡ length (trace_points field ro rd tmin tmax)
   unfolding trace_of trace_points
-  trace-count =
-      march-each field ro rd tmax (λ _ _ made x ps. steps_in x ≡ made + length ps)
+  trace_count =
+      march_each field ro rd tmax (λ _ _ made x ps. steps_in x ≡ made + length ps)
       (λ _ made. sym (add-zero made))
       (λ _ _ made _ _. omega arith)
       (λ _ _ made _. omega arith)
@@ -124,22 +124,22 @@ module _ (field : Field) (ro rd : Vec3) (tmin tmax : Float) where
       128 tmin 0
       ∙ zero-add _
 
-  pub trace-few : length (trace_points field ro rd tmin tmax) ≤ trace_most
+  pub trace_few : length (trace_points field ro rd tmin tmax) ≤ trace_most
   unfolding trace_points
-  trace-few =
-      march-each field ro rd tmax (λ left _ _ _ ps. length ps ≤ left)
+  trace_few =
+      march_each field ro rd tmax (λ left _ _ _ ps. length ps ≤ left)
       (λ _ _. omega arith)
       (λ left _ _ _ _. omega arith)
       (λ left _ _ _. omega arith)
       (λ left _ _ _ _ ps _ ih. omega arith)
       128 tmin 0
 
-  pub trace-hit : (h : Hit) (n : ℕ) → trace_of field ro rd tmin tmax ≡ Met h n → Surface field ro rd h
+  pub trace_hit : (h : Hit) (n : ℕ) → trace_of field ro rd tmin tmax ≡ Met h n → Surface field ro rd h
   unfolding trace_of
-  trace-hit h n =
-      march-each field ro rd tmax (λ _ _ _ x _. x ≡ Met h n → Surface field ro rd h)
+  trace_hit h n =
+      march_each field ro rd tmax (λ _ _ _ x _. x ≡ Met h n → Surface field ro rd h)
       (λ _ _ e. no e)
-      (λ _ t _ g e q. let i : g ≡ h = cc in found-is field ro rd tmax t h (e ∙ ap Found i))
+      (λ _ t _ g e q. let i : g ≡ h = cc in found_is field ro rd tmax t h (e ∙ ap Found i))
       (λ _ _ _ _ e. no e)
       (λ _ _ _ _ _ _ _ ih. ih)
       128 tmin 0
@@ -154,7 +154,7 @@ pub trace_agrees
     → trace_of f ro rd tmin tmax ≡ trace_of g ro rd tmin tmax
 unfolding trace_of trace_points march follow
 trace_agrees f g ro rd tmin tmax =
-    march-each f ro rd tmax
+    march_each f ro rd tmax
     (λ left t made x ps. All (λ (p : Vec3). f p ≡ g p) ps → x ≡ march g ro rd tmax left t made)
     (λ _ _ _. refl)
     (λ _ _ _ _ e a. rw (sym a.0, e))

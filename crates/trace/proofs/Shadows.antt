@@ -84,7 +84,7 @@ module _ (field : Field) (ro rd : Vec3) (tmax k : Float) where
   onward left = pass [] (λ (next : Cone). cone_points field ro rd tmax k left next)
 
   -- ---- the code's loop: a turn, and its two ends
-  pub cone-turn
+  pub cone_turn
       : (c : Cone) (steps : ℕ) (whole : Shadow)
       → steps < 96
       → lt c.t tmax ≡ true
@@ -93,29 +93,29 @@ module _ (field : Field) (ro rd : Vec3) (tmax k : Float) where
       → s ≡ at c
       → after (96 - (steps + 1)) (steps + 1) s ≡ whole
   unfolding cone_march
-  cone-turn c steps whole h b e s q =
+  cone_turn c steps whole h b e s q =
       let l : 96 - steps ≡ suc (96 - (steps + 1)) = omega arith in
       rw (q, add-one) (rw (l, b, add-one) at e)
 
-  pub cone-past
+  pub cone_past
       : (left : ℕ) (c : Cone) (made : ℕ) (whole : Shadow)
       → lt c.t tmax ≡ false
       → cone_march field ro rd tmax k left c made ≡ whole
       → seen_of c.res made ≡ whole
   unfolding cone_march
-  cone-past zero c made whole b e = e
-  cone-past (suc left) c made whole b e = rw b at e
+  cone_past zero c made whole b e = e
+  cone_past (suc left) c made whole b e = rw b at e
 
-  pub cone-spent
+  pub cone_spent
       : (c : Cone) (steps : ℕ) (whole : Shadow)
       → 96 ≤ steps
       → cone_march field ro rd tmax k (96 - steps) c steps ≡ whole
       → seen_of c.res steps ≡ whole
   unfolding cone_march
-  cone-spent c steps whole h e = let l : 96 - steps ≡ 0 = omega arith in rw l at e
+  cone_spent c steps whole h e = let l : 96 - steps ≡ 0 = omega arith in rw l at e
 
   -- ---- what holds of every march and its points
-  cone-each
+  cone_each
       : (P : ℕ → Cone → ℕ → Shadow → List Vec3 → Type 0)
       → ((c : Cone) (made : ℕ) → P 0 c made (seen_of c.res made) [])
       → ((left : ℕ) (c : Cone) (made : ℕ) → lt c.t tmax ≡ false → P (suc left) c made
@@ -132,8 +132,8 @@ module _ (field : Field) (ro rd : Vec3) (tmax k : Float) where
       → (left : ℕ) (c : Cone) (made : ℕ)
       → P left c made (cone_march field ro rd tmax k left c made) (cone_points field ro rd tmax k left c)
   unfolding cone_march cone_points pass
-  cone-each P spent past dark on zero c made = spent c made
-  cone-each P spent past dark on (suc left) c made =
+  cone_each P spent past dark on zero c made = spent c made
+  cone_each P spent past dark on (suc left) c made =
       elim (lt c.t tmax) as
       (λ (b : Bool).
       lt c.t tmax ≡ b
@@ -144,7 +144,7 @@ module _ (field : Field) (ro rd : Vec3) (tmax k : Float) where
             (λ (s : Passed).
             at c ≡ s → P (suc left) c made (after left (suc made) s) (point_at ro rd c.t ∷ onward left s)) [
               | Dark ↦ dark left c made b
-              | Going n ↦ λ e. on left c made n _ _ b e (cone-each P spent past dark on left n (suc made))
+              | Going n ↦ λ e. on left c made n _ _ b e (cone_each P spent past dark on left n (suc made))
             ]
             refl
         | false ↦ past left c made
@@ -155,10 +155,10 @@ module _ (field : Field) (ro rd : Vec3) (tmin tmax k : Float) where
   abbrev shadow : Shadow
   shadow = shadow_of field ro rd tmin tmax k
 
-  pub shadow-count : shadow.count ≡ length (shadow_points field ro rd tmin tmax k)
+  pub shadow_count : shadow.count ≡ length (shadow_points field ro rd tmin tmax k)
   unfolding shadow_of shadow_points seen_of
-  shadow-count =
-      cone-each field ro rd tmax k (λ _ _ made x ps. x.count ≡ made + length ps)
+  shadow_count =
+      cone_each field ro rd tmax k (λ _ _ made x ps. x.count ≡ made + length ps)
       (λ _ made. sym (add-zero made))
       (λ _ _ made _. sym (add-zero made))
       (λ _ _ made _ _. omega arith)
@@ -166,28 +166,28 @@ module _ (field : Field) (ro rd : Vec3) (tmin tmax k : Float) where
       96 (cone_from tmin) 0
       ∙ zero-add _
 
-  pub shadow-few : length (shadow_points field ro rd tmin tmax k) ≤ shadow_most
+  pub shadow_few : length (shadow_points field ro rd tmin tmax k) ≤ shadow_most
   unfolding shadow_points
-  shadow-few =
-      cone-each field ro rd tmax k (λ left _ _ _ ps. length ps ≤ left)
+  shadow_few =
+      cone_each field ro rd tmax k (λ left _ _ _ ps. length ps ≤ left)
       (λ _ _. omega arith)
       (λ left _ _ _. omega arith)
       (λ left _ _ _ _. omega arith)
       (λ left _ _ _ _ ps _ _ ih. omega arith)
       96 (cone_from tmin) 0
 
-  shadow-unit : Between f0 f1 shadow.vis
+  shadow_unit : Between f0 f1 shadow.vis
   unfolding shadow_of seen_of of_bits
-  shadow-unit =
-      cone-each field ro rd tmax k (λ _ c _ x _. T (number c.res) → Between f0 f1 x.vis)
+  shadow_unit =
+      cone_each field ro rd tmax k (λ _ c _ x _. T (number c.res) → Between f0 f1 x.vis)
       (λ c _ n. clamp_between c.res f0 f1 n unit)
       (λ _ c _ _ n. clamp_between c.res f0 f1 n unit)
       (λ _ _ _ _ _ _. (le_refl f0 (le_left f0 f1 unit), unit))
       (λ _ c _ next _ _ _ e ih n. ih (going_number c _ k next e n))
       96 (cone_from tmin) 0 tt
 
-  pub shadow-between : (le f0 shadow.vis ≡ true) × (le shadow.vis f1 ≡ true)
-  shadow-between = (is_yes shadow-unit.0, is_yes shadow-unit.1)
+  pub shadow_between : (le f0 shadow.vis ≡ true) × (le shadow.vis f1 ≡ true)
+  shadow_between = (is_yes shadow_unit.0, is_yes shadow_unit.1)
 
 -- two fields that agree on the points
 pub shadow_agrees
@@ -196,7 +196,7 @@ pub shadow_agrees
     → shadow_of f ro rd tmin tmax k ≡ shadow_of g ro rd tmin tmax k
 unfolding shadow_of shadow_points cone_march pass
 shadow_agrees f g ro rd tmin tmax k =
-    cone-each f ro rd tmax k
+    cone_each f ro rd tmax k
     (λ left c made x ps. All (λ (p : Vec3). f p ≡ g p) ps → x ≡ cone_march g ro rd tmax k left c made)
     (λ _ _ _. refl)
     (λ _ _ _ b _. rw b)

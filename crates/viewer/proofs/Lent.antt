@@ -15,7 +15,7 @@ use Rattle.wire.specs.Sent.{Sent}
 use Rattle.wire.proofs.Replies.{sent_as}
 use Rattle.wire_used.specs.Inside.Used.{Spared}
 use Rattle.viewer.specs.Calls.{Ask, ask_reply}
-use Rattle.viewer.proofs.Spared.{spared-same, spared-args}
+use Rattle.viewer.proofs.Spared.{spared_same, spared_args}
 
 -- a call that replies alike where it reads the same
 abbrev pub Reads : Ask → Type 0
@@ -34,6 +34,6 @@ ask_sent call reads need plan nodes order tree args out w f before r n out' t b 
     let all : List ℕ = ask_table need plan nodes order tree args in
     let same : r ≡ ask_reply call need plan nodes order tree args (length out)
     = e ∙ ap (call before tree w) t.1
-    ∙ reads before tree w all (seen w) (seen all) (spared-same all w t.0) (spared-args all w t.0)
+    ∙ reads before tree w all (seen w) (seen all) (spared_same all w t.0) (spared_args all w t.0)
     ∙ ap (λ (k : ℕ). call k tree all (seen all)) b in
     sent_as same s

@@ -16,7 +16,7 @@ use Rattle.bvh_boxes.specs.Boxes.{boxes_of}
 use Rattle.bvh_rules.specs.Nodes.{nodes_of, order_of}
 use Rattle.bvh_rules.specs.Check.{standing_number}
 use Rattle.bvh_search.specs.Field.{field_by}
-use Rattle.bvh_search.proofs.Same.{Same, standing-same, hit_same, field-same}
+use Rattle.bvh_search.proofs.Same.{Same, standing_same, hit_same, field_same}
 use Rattle.ask_test.specs.Numbers.{arg_vec, tree_number, query_number, solids_ask}
 use Rattle.reply.specs.declared.Reply.{Reply}
 use Rattle.reply.specs.Reply.{reply_of}
@@ -44,9 +44,9 @@ module _ (before tree : ℕ) (v w : List ℕ) (f g : List Float) (s : Same v w f
       let at : (j : ℕ) → 16 * 1393 + k + j ≡ 16 * 1393 + (k + j) = λ j. omega arith in
       rw (at 1, at 2) (rw (a.float k (omega arith), a.float (k + 1) (omega arith), a.float (k + 2) (omega arith)))
 
-  tree-same : tree_number tree v f ≡ tree_number tree w g
+  tree_same : tree_number tree v f ≡ tree_number tree w g
   unfolding tree_number
-  tree-same = rw (standing-same v w f g s)
+  tree_same = rw (standing_same v w f g s)
 
   stands
       : tree_number tree w g ≡ 0 → tree ≡ 1
@@ -55,13 +55,13 @@ module _ (before tree : ℕ) (v w : List ℕ) (f g : List Float) (s : Same v w f
   stands z e = rw (eq-eqb tree 1 e) at z
 
   field : tree_number tree w g ≡ 0 → field_by tree v f ≡ field_by tree w g
-  field z = fun_ext (field-same v w f g s tree (stands z))
+  field z = fun_ext (field_same v w f g s tree (stands z))
 
-  pub query-same : query_reply before tree v f ≡ query_reply before tree w g
+  pub query_same : query_reply before tree v f ≡ query_reply before tree w g
   unfolding query_reply query_number
-  query-same =
+  query_same =
       rw (
-        tree-same,
+        tree_same,
         s.plan,
         vec 0 (omega arith),
         a.float 3 (omega arith),
@@ -69,16 +69,16 @@ module _ (before tree : ℕ) (v w : List ℕ) (f g : List Float) (s : Same v w f
       )
       (reply_when _ _ _ (λ e. rw (hit_same v w f g s tree (stands (second _ _ e)))))
 
-  pub dist-mat-same : dist_mat_reply before tree v f ≡ dist_mat_reply before tree w g
+  pub dist_mat_same : dist_mat_reply before tree v f ≡ dist_mat_reply before tree w g
   unfolding dist_mat_reply solids_ask
-  dist-mat-same =
-      rw (tree-same, s.plan, vec 0 (omega arith)) (reply_when _ _ _ (λ e. rw (field (second _ _ e))))
+  dist_mat_same =
+      rw (tree_same, s.plan, vec 0 (omega arith)) (reply_when _ _ _ (λ e. rw (field (second _ _ e))))
 
-  pub trace-same : trace_reply before tree v f ≡ trace_reply before tree w g
+  pub trace_same : trace_reply before tree v f ≡ trace_reply before tree w g
   unfolding trace_reply solids_ask
-  trace-same =
+  trace_same =
       rw (
-        tree-same,
+        tree_same,
         s.plan,
         vec 0 (omega arith),
         vec 3 (omega arith),
@@ -87,11 +87,11 @@ module _ (before tree : ℕ) (v w : List ℕ) (f g : List Float) (s : Same v w f
       )
       (reply_when _ _ _ (λ e. rw (field (second _ _ e))))
 
-  pub shadow-same : shadow_reply before tree v f ≡ shadow_reply before tree w g
+  pub shadow_same : shadow_reply before tree v f ≡ shadow_reply before tree w g
   unfolding shadow_reply solids_ask
-  shadow-same =
+  shadow_same =
       rw (
-        tree-same,
+        tree_same,
         s.plan,
         vec 0 (omega arith),
         vec 3 (omega arith),
@@ -101,11 +101,11 @@ module _ (before tree : ℕ) (v w : List ℕ) (f g : List Float) (s : Same v w f
       )
       (reply_when _ _ _ (λ e. rw (field (second _ _ e))))
 
-  pub direct-same : direct_reply before tree v f ≡ direct_reply before tree w g
+  pub direct_same : direct_reply before tree v f ≡ direct_reply before tree w g
   unfolding direct_reply lit_ask
-  direct-same =
+  direct_same =
       rw (
-        tree-same,
+        tree_same,
         s.plan,
         vec 0 (omega arith),
         vec 3 (omega arith),
@@ -116,8 +116,8 @@ module _ (before tree : ℕ) (v w : List ℕ) (f g : List Float) (s : Same v w f
       )
       (reply_when _ _ _ (λ e. rw (field (middle _ _ _ e))))
 
-  pub diffuse-same : direct_diffuse_reply before tree v f ≡ direct_diffuse_reply before tree w g
+  pub diffuse_same : direct_diffuse_reply before tree v f ≡ direct_diffuse_reply before tree w g
   unfolding direct_diffuse_reply lit_ask
-  diffuse-same =
-      rw (tree-same, s.plan, vec 0 (omega arith), vec 3 (omega arith), vec 6 (omega arith))
+  diffuse_same =
+      rw (tree_same, s.plan, vec 0 (omega arith), vec 3 (omega arith), vec 6 (omega arith))
       (reply_when _ _ _ (λ e. rw (field (middle _ _ _ e))))

@@ -23,7 +23,7 @@ use Rattle.bvh_search.proofs.Same.{Same, Trimmed, AtMost}
 use Rattle.wire_used.specs.Inside.Used.{right_at, Leads, Used, Spared}
 use Rattle.wire_used.proofs.Parts.{List-ext}
 use Rattle.wire_used.proofs.Loads.{leads_past}
-use Rattle.wire_used.proofs.Kept.{used-piece, whole-piece, spared_plan}
+use Rattle.wire_used.proofs.Kept.{used_piece, whole_piece, spared_plan}
 
 -- the part of a table that has so many words from a place on
 part_long : {A : Type 0} (x : List A) (k n : ℕ) → k + n ≤ length x → length (take n (drop k x)) ≡ n
@@ -112,35 +112,35 @@ module _ (t w : List ℕ) (m : ℕ) (x : Used t w m) where
 
   -- ---- the nodes of a tree that stands
   module _ (lw : length w ≡ 27296) (lt : length t ≡ 27296) where
-    node-word : (i : ℕ) → i < 9 * x.e → word_of (nodes_of w) i ≡ word_of (nodes_of t) i
+    node_word : (i : ℕ) → i < 9 * x.e → word_of (nodes_of w) i ≡ word_of (nodes_of t) i
     unfolding nodes_of
-    node-word i h =
+    node_word i h =
         member 0 w t 22432 4599 i (omega (arith, lw)) (omega (arith, lt))
         (λ b. x.nodes (22432 + i) (omega arith) (omega (arith, h)))
 
-    node-float : (i : ℕ) → i < 9 * x.e → float_of (nodes_of (seen w)) i ≡ float_of (nodes_of (seen t)) i
+    node_float : (i : ℕ) → i < 9 * x.e → float_of (nodes_of (seen w)) i ≡ float_of (nodes_of (seen t)) i
     unfolding nodes_of
-    node-float i h =
+    node_float i h =
         let sw = seen_long w in
         let st = seen_long t in
         member nan (seen w) (seen t) 22432 4599 i (omega (arith, sw)) (omega (arith, st))
         (λ b.
         float_same t w (22432 + i) (omega (arith, b)) (x.nodes (22432 + i) (omega arith) (omega (arith, h))))
 
-    used-node
+    used_node
         : (a : ℕ) → a < x.e → node_at (nodes_of w) (nodes_of (seen w)) a ≡ node_at (nodes_of t) (nodes_of (seen t)) a
     unfolding node_at
-    used-node a h =
+    used_node a h =
         rw (
-          node-float (9 * a) (omega (arith, h)),
-          node-float (9 * a + 1) (omega (arith, h)),
-          node-float (9 * a + 2) (omega (arith, h)),
-          node-float (9 * a + 3) (omega (arith, h)),
-          node-float (9 * a + 4) (omega (arith, h)),
-          node-float (9 * a + 5) (omega (arith, h)),
-          node-word (9 * a + 6) (omega (arith, h)),
-          node-word (9 * a + 7) (omega (arith, h)),
-          node-word (9 * a + 8) (omega (arith, h)),
+          node_float (9 * a) (omega (arith, h)),
+          node_float (9 * a + 1) (omega (arith, h)),
+          node_float (9 * a + 2) (omega (arith, h)),
+          node_float (9 * a + 3) (omega (arith, h)),
+          node_float (9 * a + 4) (omega (arith, h)),
+          node_float (9 * a + 5) (omega (arith, h)),
+          node_word (9 * a + 6) (omega (arith, h)),
+          node_word (9 * a + 7) (omega (arith, h)),
+          node_word (9 * a + 8) (omega (arith, h)),
         )
 
     -- the right child of a node as the tree rules read it is that of the table
@@ -162,24 +162,24 @@ module _ (t w : List ℕ) (m : ℕ) (x : Used t w m) where
           long_w = part_long t 22432 4599 (omega (arith, lt));
           e = x.e;
           most_v = at_most (nodes_of w) (nodes_of (seen w)) x.e x.links (right_at t)
-              (λ a h. right_is a h ∙ sym (ap (λ (n : Node). n.right) (used-node a h))) x.leads;
+              (λ a h. right_is a h ∙ sym (ap (λ (n : Node). n.right) (used_node a h))) x.leads;
           most_w = at_most (nodes_of t) (nodes_of (seen t)) x.e x.links (right_at t) right_is x.leads;
-          node = used-node;
+          node = used_node;
         }
 
 module _ (t w : List ℕ) (s : Spared t w) where
   -- ---- where all is loaded
   module _ (all : (i : ℕ) → word_of w i ≡ word_of t i) where
-    whole-nodes : nodes_of w ≡ nodes_of t
+    whole_nodes : nodes_of w ≡ nodes_of t
     unfolding nodes_of
-    whole-nodes =
+    whole_nodes =
         let l = s.long in
         let k = s.whole in
         Part-same 0 w t 22432 4599 (omega (arith, l)) (omega (arith, k)) (λ i h g. all i)
 
-    whole-hulls : nodes_of (seen w) ≡ nodes_of (seen t)
+    whole_hulls : nodes_of (seen w) ≡ nodes_of (seen t)
     unfolding nodes_of
-    whole-hulls =
+    whole_hulls =
         let l = seen_long w in
         let k = seen_long t in
         Part-same nan (seen w) (seen t) 22432 4599 (omega (arith, l)) (omega (arith, k))
@@ -192,26 +192,26 @@ module _ (t w : List ℕ) (s : Spared t w) where
       let k = s.whole in
       Part-same 0 w t 27031 256 (omega (arith, l)) (omega (arith, k)) (λ i h g. s.early i (inr h))
 
-  piece-same : (i : ℕ) → piece_in w (seen w) (order_of t) i ≡ piece_in t (seen t) (order_of t) i
+  piece_same : (i : ℕ) → piece_in w (seen w) (order_of t) i ≡ piece_in t (seen t) (order_of t) i
   unfolding piece_in
-  piece-same i =
+  piece_same i =
       let o : ℕ = word_of (order_of t) i in
       ⊎_elim
-      (λ all. sym (whole-piece t w all (113 + o)))
-      (λ x. sym (used-piece t w x.0 x.1 o (named t w x.0 x.1 s.whole i)))
+      (λ all. sym (whole_piece t w all (113 + o)))
+      (λ x. sym (used_piece t w x.0 x.1 o (named t w x.0 x.1 s.whole i)))
       s.rest
 
-  pub spared-same : Same w t (seen w) (seen t)
-  spared-same =
+  pub spared_same : Same w t (seen w) (seen t)
+  spared_same =
       record {
         plan = spared_plan t w s;
         count = s.early 3 (inl (inl (omega arith)));
         tree =
-            ⊎_elim (λ all. inl (whole-nodes all, whole-hulls all))
+            ⊎_elim (λ all. inl (whole_nodes all, whole_hulls all))
             (λ x. inr (trimmed t w x.0 x.1 s.long s.whole)) s.rest;
         order = order_same;
-        piece = piece-same;
+        piece = piece_same;
       }
 
-  pub spared-args : Alike 16 w t (seen w) (seen t) 1393 1393
-  spared-args = kept w t 1393 (λ k p. s.early (16 * 1393 + k) (inl (inr (omega arith, omega (arith, p)))))
+  pub spared_args : Alike 16 w t (seen w) (seen t) 1393 1393
+  spared_args = kept w t 1393 (λ k p. s.early (16 * 1393 + k) (inl (inr (omega arith, omega (arith, p)))))

@@ -33,20 +33,20 @@ entered number index w left w' plan out r n plan' out' e p s =
 
 -- number, index and table left are functions of what applies before, of the table's words and of its floats
 module _ (number : ℕ → List ℕ → List Float → ℕ) (index : List ℕ → ℕ) (left : List ℕ → List Float → List ℕ) where
-  pub entry-sent : (before b : ℕ) (w t : List ℕ) (f : List Float) (w' plan out : List ℕ) (r : Reply) (n : ℕ) (plan' out' : List ℕ)
+  pub entry_sent : (before b : ℕ) (w t : List ℕ) (f : List Float) (w' plan out : List ℕ) (r : Reply) (n : ℕ) (plan' out' : List ℕ)
       → (w ≡ t) × (f ≡ seen w) → before ≡ b
       → EntersTable (number before w f) (index w) w (left w f) r w'
       → plan' ≡ stored_plan (eqb r.number 0) w' plan
       → Sent r out n out'
       → EntrySent (number b t (seen t)) (index t) (left t (seen t)) plan out n plan' out'
-  entry-sent before b w t f w' plan out r n plan' out' l eb e p s =
+  entry_sent before b w t f w' plan out r n plan' out' l eb e p s =
       rw (← l.0, ← l.1, ← eb) (entered (number before w f) (index w) w (left w f) w' plan out r n plan' out' e p s)
 
-  pub entry-clears : (before b : ℕ) (w t : List ℕ) (f : List Float) (w' : List ℕ) (r : Reply) (nodes nodes' : List ℕ) (bytes : ℕ)
+  pub entry_clears : (before b : ℕ) (w t : List ℕ) (f : List Float) (w' : List ℕ) (r : Reply) (nodes nodes' : List ℕ) (bytes : ℕ)
       → (w ≡ t) × (f ≡ seen w) → before ≡ b
       → EntersTable (number before w f) (index w) w (left w f) r w'
       → nodes' ≡ cleared (eqb r.number 0) nodes bytes
       → nodes' ≡ cleared (eqb (number b t (seen t)) 0) nodes bytes
-  entry-clears before b w t f w' r nodes nodes' bytes l eb e h =
+  entry_clears before b w t f w' r nodes nodes' bytes l eb e h =
       let k = number_of r (number before w f) (index w) e.reply in
       rw (← l.0, ← l.1, ← eb) (h ∙ ap (λ (x : ℕ). cleared (eqb x 0) nodes bytes) k)

@@ -23,7 +23,7 @@ use Rattle.wire.specs.Inside.Parts.{loaded_part}
 use Rattle.wire.proofs.Loads.{table_loaded}
 use Rattle.wire_used.specs.Inside.Used.{Seen, Shown, Put, Filled, EndsBy, Begins, InOrder, Early, Listed}
 use Rattle.wire_used.specs.Inside.Used.{WithCutters, right_in, right_at, Leads, Begun, Used, Spared}
-use Rattle.wire_used.proofs.Parts.{List-ext, part-long, part-before, part_in, part-after, word_drop}
+use Rattle.wire_used.proofs.Parts.{List-ext, part_long, part_before, part_in, part_after, word_drop}
 use Rattle.wire_used.proofs.Laws.{ends_more}
 
 -- ---- a new table
@@ -51,15 +51,15 @@ module _ (t w x : List ℕ) (f g : List Float) (from to : ℕ) (h : from ≤ to)
   room = omega (arith, k, l)
 
   outside : (i : ℕ) → (i < from) ⊎ (to ≤ i) → word_of x i ≡ word_of w i
-  outside i a = ⊎_elim (part-before t w x from to h room e i) (part-after t w x from to h room e i) a
+  outside i a = ⊎_elim (part_before t w x from to h room e i) (part_after t w x from to h room e i) a
 
-  pub put-law : Put (λ i. word_at t (i - from)) w x f g from to
-  put-law =
+  pub put_law : Put (λ i. word_at t (i - from)) w x f g from to
+  put_law =
       record {
         inside = part_in t w x from to h room e;
         outside = outside;
         shown = λ z. record {
-          long = part-long t w x from to h room e ∙ l;
+          long = part_long t w x from to h room e ∙ l;
           wide = s.long;
           each = λ i b.
               ⊎_elim (λ a. s.inside i a.0 a.1)
@@ -103,10 +103,10 @@ more t w x f g from to filled p agree cover =
 
 -- ---- the cutters
 module _ {source : ℕ → ℕ} (w x : List ℕ) (f g : List Float) (u v : ℕ) (low : u ≤ 1024) (most : v ≤ 1024) where
-  pub cuts-two
+  pub cuts_two
       : (y : List ℕ) (k : List Float) → u < v → Put source w y f k (16 * 369) (16 * (369 + u))
       → Put source y x k g (16 * (369 + v)) (16 * (369 + v + (1024 - v))) → WithCutters source w x f g u v
-  cuts-two y k h p q =
+  cuts_two y k h p q =
       record {
         front = λ i a b. q.outside i (inl (omega (arith, b, h))) ∙ p.inside i (omega (arith, a)) (omega (arith, b));
         back = λ i a b. q.inside i (omega (arith, a)) (omega (arith, b, most));
@@ -116,8 +116,8 @@ module _ {source : ℕ → ℕ} (w x : List ℕ) (f g : List Float) (u v : ℕ) 
         shown = λ s. q.shown (p.shown s);
       }
 
-  pub cuts-all : Put source w x f g (16 * 369) (16 * (369 + 1024)) → WithCutters source w x f g u v
-  cuts-all p =
+  pub cuts_all : Put source w x f g (16 * 369) (16 * (369 + 1024)) → WithCutters source w x f g u v
+  cuts_all p =
       record {
         front = λ i a b. p.inside i (omega (arith, a)) (omega (arith, b, low));
         back = λ i a b. p.inside i (omega (arith, a)) (omega (arith, b));
@@ -144,8 +144,8 @@ module _ (plan t w w1 w2 w3 x : List ℕ) (f f1 f2 f3 g : List Float) (m n0 n1 n
     (p2 : Put (word_at plan) w1 w2 f1 f2 (16 * 65) (16 * (65 + n1)))
     (p3 : Put (word_at plan) w2 w3 f2 f3 (16 * 81) (16 * (81 + 2 * n2)))
     (p4 : Put (word_at plan) w3 x f3 g (16 * 113) (16 * (113 + m))) where
-  pub lists-law : Filled t x g (Listed t m)
-  lists-law =
+  pub lists_law : Filled t x g (Listed t m)
+  lists_law =
       let k = in_order_as t w f m early o in
       let mo = k.materials in
       let po = k.planes in
@@ -220,16 +220,16 @@ module _ (plan nodes t w w1 w2 x : List ℕ) (f f1 f2 g : List Float) (m e k n u
   in_order : InOrder t m
   in_order = in_order_as t w f m b.filled o
 
-  n-is : n ≡ word_of t 1
-  n-is = a1 ∙ listed.same 1 (inl (inl (inl (inl (inl (inl (omega arith)))))))
+  n_is : n ≡ word_of t 1
+  n_is = a1 ∙ listed.same 1 (inl (inl (inl (inl (inl (inl (omega arith)))))))
 
   -- the head of a piece
-  plane-word : (j k : ℕ) → j < n → k < 16 → word_of w1 (16 * (65 + j) + k) ≡ word_of t (16 * (65 + j) + k)
-  plane-word j k h l =
-      listed.same (16 * (65 + j) + k) (inl (inl (inr (omega arith, omega (arith, h, l, n-is)))))
+  plane_word : (j k : ℕ) → j < n → k < 16 → word_of w1 (16 * (65 + j) + k) ≡ word_of t (16 * (65 + j) + k)
+  plane_word j k h l =
+      listed.same (16 * (65 + j) + k) (inl (inl (inr (omega arith, omega (arith, h, l, n_is)))))
 
-  object-word : (j k : ℕ) → j < m → k < 16 → word_of w1 (16 * (113 + j) + k) ≡ word_of t (16 * (113 + j) + k)
-  object-word j k h l = listed.same (16 * (113 + j) + k) (inr (omega arith, omega (arith, h, l)))
+  object_word : (j k : ℕ) → j < m → k < 16 → word_of w1 (16 * (113 + j) + k) ≡ word_of t (16 * (113 + j) + k)
+  object_word j k h l = listed.same (16 * (113 + j) + k) (inr (omega arith, omega (arith, h, l)))
 
   -- the places of the lists lie outside those of the cutters
   apart : (i : ℕ) → Listed t m i → (i < 5904) ⊎ (22288 ≤ i)
@@ -264,13 +264,13 @@ module _ (plan nodes t w w1 w2 x : List ℕ) (f f1 f2 g : List Float) (m e k n u
         u = u;
         v = v;
         most = low;
-        ends = λ j h. rw (← (object-word j 2 h (omega arith)), ← (object-word j 12 h (omega arith))) (ends j h);
+        ends = λ j h. rw (← (object_word j 2 h (omega arith)), ← (object_word j 12 h (omega arith))) (ends j h);
         begins = λ j h.
-            let k : j < n = omega (arith, h, n-is) in
-            rw (← (plane-word j 2 k (omega arith)), ← (plane-word j 12 k (omega arith))) (begins j k);
+            let k : j < n = omega (arith, h, n_is) in
+            rw (← (plane_word j 2 k (omega arith)), ← (plane_word j 12 k (omega arith))) (begins j k);
         planes_end = λ j h.
-            let k : j < n = omega (arith, h, n-is) in
-            rw (← (plane-word j 2 k (omega arith)), ← (plane-word j 12 k (omega arith)))
+            let k : j < n = omega (arith, h, n_is) in
+            rw (← (plane_word j 2 k (omega arith)), ← (plane_word j 12 k (omega arith)))
             (ends_more w1 q 1024 (65 + j) last (planes_end j k));
         lists = lists;
         front = λ i h k. c.front i h k ∙ b.plan_is i (omega (arith, k, low));
@@ -282,8 +282,8 @@ module _ (plan nodes t w w1 w2 x : List ℕ) (f f1 f2 g : List Float) (m e k n u
         nodes = λ i h l. kept i (inr (omega (arith, h))) (inr (h, l));
       }
 
-  pub used-law : Spared t x × Filled t x g Early
-  used-law =
+  pub used_law : Spared t x × Filled t x g Early
+  used_law =
       let all : Filled t x g Early
       = record { same = λ i a. lists i (inl (inl (inl (inl a)))); shown = c.shown filled.shown } in
       (record { long = all.shown.long; whole = b.whole; early = all.same; rest = inr (m, used) }, all)
@@ -306,16 +306,16 @@ module _ (plan args nodes order z : List ℕ) (l : length z ≡ 27296) where
   t5 = loaded_part [] t4 27287 27296
 
   m1 : length t1 ≡ 27296
-  m1 = part-long plan z t1 0 22288 (omega arith) (omega (arith, l)) refl ∙ l
+  m1 = part_long plan z t1 0 22288 (omega arith) (omega (arith, l)) refl ∙ l
 
   m2 : length t2 ≡ 27296
-  m2 = part-long args t1 t2 22288 22432 (omega arith) (omega (arith, m1)) refl ∙ m1
+  m2 = part_long args t1 t2 22288 22432 (omega arith) (omega (arith, m1)) refl ∙ m1
 
   m3 : length t3 ≡ 27296
-  m3 = part-long nodes t2 t3 22432 27031 (omega arith) (omega (arith, m2)) refl ∙ m2
+  m3 = part_long nodes t2 t3 22432 27031 (omega arith) (omega (arith, m2)) refl ∙ m2
 
   m4 : length t4 ≡ 27296
-  m4 = part-long order t3 t4 27031 27287 (omega arith) (omega (arith, m3)) refl ∙ m3
+  m4 = part_long order t3 t4 27031 27287 (omega arith) (omega (arith, m3)) refl ∙ m3
 
   abbrev t : List ℕ
   t = table_of plan args nodes order
@@ -323,47 +323,47 @@ module _ (plan args nodes order z : List ℕ) (l : length z ≡ 27296) where
   table : t5 ≡ t
   table = table_loaded plan args nodes order [] z t1 t2 t3 t4 t5 l refl refl refl refl refl refl
 
-  pub table-long : length t ≡ 27296
-  table-long = ap length (sym table) ∙ part-long [] t4 t5 27287 27296 (omega arith) (omega (arith, m4)) refl ∙ m4
+  pub table_long : length t ≡ 27296
+  table_long = ap length (sym table) ∙ part_long [] t4 t5 27287 27296 (omega arith) (omega (arith, m4)) refl ∙ m4
 
   from4 : (i : ℕ) → i < 27287 → word_of t i ≡ word_of t4 i
   from4 i k =
       ap (λ (c : List ℕ). word_of c i) (sym table)
-      ∙ part-before [] t4 t5 27287 27296 (omega arith) (omega (arith, m4)) refl i k
+      ∙ part_before [] t4 t5 27287 27296 (omega arith) (omega (arith, m4)) refl i k
 
   from3 : (i : ℕ) → i < 27031 → word_of t i ≡ word_of t3 i
   from3 i k =
-      from4 i (omega (arith, k)) ∙ part-before order t3 t4 27031 27287 (omega arith) (omega (arith, m3)) refl i k
+      from4 i (omega (arith, k)) ∙ part_before order t3 t4 27031 27287 (omega arith) (omega (arith, m3)) refl i k
 
   from2 : (i : ℕ) → i < 22432 → word_of t i ≡ word_of t2 i
   from2 i k =
-      from3 i (omega (arith, k)) ∙ part-before nodes t2 t3 22432 27031 (omega arith) (omega (arith, m2)) refl i k
+      from3 i (omega (arith, k)) ∙ part_before nodes t2 t3 22432 27031 (omega arith) (omega (arith, m2)) refl i k
 
-  pub spare-word : (i : ℕ) → 27287 ≤ i → word_of t i ≡ 0
-  spare-word i h =
+  pub spare_word : (i : ℕ) → 27287 ≤ i → word_of t i ≡ 0
+  spare_word i h =
       elim (dec_le 27296 i) [
-        | yes a ↦ let long = table-long in get_or-eq_default t 0 {n = i} (omega (arith, a, long))
+        | yes a ↦ let long = table_long in get_or-eq_default t 0 {n = i} (omega (arith, a, long))
         | no a ↦
             ap (λ (c : List ℕ). word_of c i) (sym table)
             ∙ part_in [] t4 t5 27287 27296 (omega arith) (omega (arith, m4)) refl i h (omega (arith, a))
             ∙ sym (word_past [] (i - 27287) (omega arith))
       ]
 
-  pub plan-word : (i : ℕ) → i < 22288 → word_at plan i ≡ word_of t i
-  plan-word i k =
+  pub plan_word : (i : ℕ) → i < 22288 → word_at plan i ≡ word_of t i
+  plan_word i k =
       sym (from2 i (omega (arith, k))
-      ∙ part-before args t1 t2 22288 22432 (omega arith) (omega (arith, m1)) refl i k
+      ∙ part_before args t1 t2 22288 22432 (omega arith) (omega (arith, m1)) refl i k
       ∙ part_in plan z t1 0 22288 (omega arith) (omega (arith, l)) refl i (omega arith) k
       ∙ ap (word_at plan) (omega arith))
 
-  pub args-word : (i : ℕ) → 22288 ≤ i → i < 22432 → word_at args (i - 22288) ≡ word_of t i
-  args-word i h k = sym (from2 i k ∙ part_in args t1 t2 22288 22432 (omega arith) (omega (arith, m1)) refl i h k)
+  pub args_word : (i : ℕ) → 22288 ≤ i → i < 22432 → word_at args (i - 22288) ≡ word_of t i
+  args_word i h k = sym (from2 i k ∙ part_in args t1 t2 22288 22432 (omega arith) (omega (arith, m1)) refl i h k)
 
-  pub nodes-word : (i : ℕ) → 22432 ≤ i → i < 27031 → word_at nodes (i - 22432) ≡ word_of t i
-  nodes-word i h k = sym (from3 i k ∙ part_in nodes t2 t3 22432 27031 (omega arith) (omega (arith, m2)) refl i h k)
+  pub nodes_word : (i : ℕ) → 22432 ≤ i → i < 27031 → word_at nodes (i - 22432) ≡ word_of t i
+  nodes_word i h k = sym (from3 i k ∙ part_in nodes t2 t3 22432 27031 (omega arith) (omega (arith, m2)) refl i h k)
 
-  pub order-word : (i : ℕ) → 27031 ≤ i → i < 27287 → word_at order (i - 27031) ≡ word_of t i
-  order-word i h k = sym (from4 i k ∙ part_in order t3 t4 27031 27287 (omega arith) (omega (arith, m3)) refl i h k)
+  pub order_word : (i : ℕ) → 27031 ≤ i → i < 27287 → word_at order (i - 27031) ≡ word_of t i
+  order_word i h k = sym (from4 i k ∙ part_in order t3 t4 27031 27287 (omega arith) (omega (arith, m3)) refl i h k)
 
 -- ---- a new table, with counts, arguments and order
 module _ (plan args nodes order z w1 w2 w : List ℕ) (k f1 f2 f : List Float) (l : length z ≡ 27296)
@@ -379,7 +379,7 @@ module _ (plan args nodes order z w1 w2 w : List ℕ) (k f1 f2 f : List Float) (
   unfolding of_bits
   new =
       record {
-        same = λ i h. zero i ∙ sym (spare-word plan args nodes order z l i h);
+        same = λ i h. zero i ∙ sym (spare_word plan args nodes order z l i h);
         shown = record { long = l; wide = n; each = λ i h. none i h ∙ ap (of_bits binary32) (sym (zero i)) };
       }
 
@@ -388,11 +388,11 @@ module _ (plan args nodes order z w1 w2 w : List ℕ) (k f1 f2 f : List Float) (
       more whole w2 w f2 f 27031 27287
       (more {Q = λ i. ((i < 16) ⊎ ((22288 ≤ i) × (i < 22432))) ⊎ (27287 ≤ i)} whole w1 w2 f1 f2 22288 22432
       (more {Q = λ i. (i < 16) ⊎ (27287 ≤ i)} whole z w1 k f1 (16 * 0) (16 * (0 + 1)) new p1
-      (λ i _ h. plan-word plan args nodes order z l i (omega (arith, h)))
+      (λ i _ h. plan_word plan args nodes order z l i (omega (arith, h)))
       (λ i q. ⊎_elim (λ a. inr (omega arith, omega (arith, a))) (λ a. inl a) q)) p2
-      (λ i h g. args-word plan args nodes order z l i h g)
+      (λ i h g. args_word plan args nodes order z l i h g)
       (λ i q. ⊎_elim (λ a. ⊎_elim (λ b. inl (inl b)) (λ b. inr b) a) (λ a. inl (inr a)) q)) p3
-      (λ i h g. order-word plan args nodes order z l i h g)
+      (λ i h g. order_word plan args nodes order z l i h g)
       (λ i q.
       ⊎_elim (λ a. inl (inl a))
       (λ a. elim (dec_le 27287 i) [ yes c ↦ inl (inr c) | no c ↦ inr (a, omega (arith, c)) ]) q)
@@ -400,10 +400,10 @@ module _ (plan args nodes order z w1 w2 w : List ℕ) (k f1 f2 f : List Float) (
   pub begun : Begun plan nodes whole w f
   begun =
       record {
-        whole = table-long plan args nodes order z l;
+        whole = table_long plan args nodes order z l;
         filled = early;
-        plan_is = plan-word plan args nodes order z l;
-        nodes_are = nodes-word plan args nodes order z l;
+        plan_is = plan_word plan args nodes order z l;
+        nodes_are = nodes_word plan args nodes order z l;
       }
 
 -- ---- all the rest, after counts, arguments and order

@@ -12,7 +12,7 @@ use lib.Seq.{get_or-append-add, get_or-take, get_or-drop, length-take-le, take-l
 use lib.Dec.{ltb}
 use Rattle.words.specs.Words.{word_at, words_of, le4}
 use Rattle.words.proofs.Laws.{less_or}
-use Rattle.words.proofs.Runs.{length_from, getD-from}
+use Rattle.words.proofs.Runs.{length_from, get_d_from}
 use Rattle.plan.specs.Records.{word_of}
 use Rattle.wire.specs.Inside.Parts.{loaded_part}
 
@@ -59,8 +59,8 @@ module _ (t w x : List ℕ) (from to : ℕ) (h : from ≤ to) (g : to ≤ length
   lb : length (words_of t (to - from)) ≡ to - from
   lb = length_from (word_at t) 0 (to - from)
 
-  pub part-long : length x ≡ length w
-  part-long =
+  pub part_long : length x ≡ length w
+  part_long =
       ap length is
       ∙ omega (
         arith,
@@ -75,8 +75,8 @@ module _ (t w x : List ℕ) (from to : ℕ) (h : from ≤ to) (g : to ≤ length
       )
 
   module _ (i : ℕ) where
-    pub part-before : i < from → word_of x i ≡ word_of w i
-    part-before k =
+    pub part_before : i < from → word_of x i ≡ word_of w i
+    part_before k =
         ap (λ (l : List ℕ). word_of l i) is
         ∙ first 0 (take from w) (words_of t (to - from)) (drop (to - from) (drop from w)) i (omega (arith, la, k))
         ∙ get_or-take from w i 0 k
@@ -87,11 +87,11 @@ module _ (t w x : List ℕ) (from to : ℕ) (h : from ≤ to) (g : to ≤ length
         ap (λ (l : List ℕ). word_of l i) is
         ∙ second 0 (take from w) (words_of t (to - from)) (drop (to - from) (drop from w)) i (omega (arith, la, k))
         (omega (arith, la, lb, l))
-        ∙ getD-from (word_at t) 0 (to - from) (i - length (take from w)) 0 (omega (arith, la, k, l))
+        ∙ get_d_from (word_at t) 0 (to - from) (i - length (take from w)) 0 (omega (arith, la, k, l))
         ∙ ap (word_at t) at
 
-    pub part-after : to ≤ i → word_of x i ≡ word_of w i
-    part-after k =
+    pub part_after : to ≤ i → word_of x i ≡ word_of w i
+    part_after k =
         let at : from + (to - from + (i - (length (take from w) + length (words_of t (to - from))))) ≡ i
         = omega (arith, la, lb, h, k) in
         let rest : ℕ = i - (length (take from w) + length (words_of t (to - from))) in

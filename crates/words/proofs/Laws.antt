@@ -99,14 +99,14 @@ module _ (b : List ℕ) (p w : ℕ) (fit : p + 4 ≤ length b) where
       ∙ get_or-set_other (st1 b p w) (p + 1) p (w / 256 % 256) 0 (λ e. omega arith)
       ∙ get_or-set_same b p (w % 256) 0 (omega arith)
 
-  pub le-put4 : le4 (put4 b p w) p ≡ w
-  le-put4 = rw (g0, g1, g2, g3) (omega arith)
+  pub le_put4 : le4 (put4 b p w) p ≡ w
+  le_put4 = rw (g0, g1, g2, g3) (omega arith)
 
 -- ---- a word put is read back, and no other changes
 pub word_same : (b : List ℕ) (i w : ℕ) → i < length b / 4 → word_at (put_word b i w) i ≡ w
 word_same b i w h =
     rw (put_in b i w h)
-    (word_in (put4 b (4 * i) w) i (rw (length_put4 b (4 * i) w) h) ∙ le-put4 b (4 * i) w (omega arith))
+    (word_in (put4 b (4 * i) w) i (rw (length_put4 b (4 * i) w) h) ∙ le_put4 b (4 * i) w (omega arith))
 
 pub word_other : (b : List ℕ) (i j w : ℕ) → (j ≡ i → ⊥) → word_at (put_word b i w) j ≡ word_at b j
 word_other b i j w n =

@@ -13,12 +13,12 @@ use Rattle.words.specs.Lists.{list_from, All}
 use Rattle.words.specs.Words.{word_at, put_word, put_words}
 
 module _ {A : Type 0} (f : ℕ → A) where
-  pub from-snoc : (a n : ℕ) → list_from f a (suc n) ≡ list_from f a n ++ (f (a + n) ∷ [])
+  pub from_snoc : (a n : ℕ) → list_from f a (suc n) ≡ list_from f a n ++ (f (a + n) ∷ [])
   unfolding list_from
-  from-snoc a zero = rw add-zero
-  from-snoc a (suc n) =
+  from_snoc a zero = rw add-zero
+  from_snoc a (suc n) =
       let e : a + suc n ≡ suc a + n = omega arith in
-      rw e (ap (λ (l : List A). f a ∷ l) (from-snoc (suc a) n))
+      rw e (ap (λ (l : List A). f a ∷ l) (from_snoc (suc a) n))
 
   pub length_from : (a n : ℕ) → length (list_from f a n) ≡ n
   unfolding list_from
@@ -38,34 +38,34 @@ module _ {A : Type 0} (f : ℕ → A) where
       → take (i + 1) (set l i v) ≡ list_from f 0 (i + 1)
   fill_more l i v h e p =
       let z : 0 + i ≡ i = omega arith in
-      rw (add-one, take-suc-set l i v h, from-snoc 0 i, z, p, e)
+      rw (add-one, take-suc-set l i v h, from_snoc 0 i, z, p, e)
 
-  pub fill-all
+  pub fill_all
       : (l : List A) (i n : ℕ) → length l ≡ n → n ≤ i → i ≤ n → take i l ≡ list_from f 0 i
       → l ≡ list_from f 0 n
-  fill-all l i n e h k p =
+  fill_all l i n e h k p =
       let q : i ≡ n = omega arith in
       sym (take_all i l (omega arith)) ∙ p ∙ ap (list_from f 0) q
 
 -- two lists of functions of the index that agree, and what such a list holds
 module _ {A : Type 0} where
-  pub from-same
+  pub from_same
       : (f g : ℕ → A) (a b n : ℕ)
       → ((k : ℕ) → k < n → f (a + k) ≡ g (b + k))
       → list_from f a n ≡ list_from g b n
   unfolding list_from
-  from-same f g a b zero h = refl
-  from-same f g a b (suc n) h =
+  from_same f g a b zero h = refl
+  from_same f g a b (suc n) h =
       let here : f a ≡ g b = ap f (omega arith) ∙ h 0 (omega arith) ∙ ap g (omega arith) in
       let next : (k : ℕ) → k < n → f (suc a + k) ≡ g (suc b + k)
       = λ k p. ap f (omega arith) ∙ h (suc k) (omega arith) ∙ ap g (omega arith) in
-      rw (here, from-same f g (suc a) (suc b) n next)
+      rw (here, from_same f g (suc a) (suc b) n next)
 
-  pub getD-from : (f : ℕ → A) (a n i : ℕ) (d : A) → i < n → get_or (list_from f a n) i d ≡ f (a + i)
+  pub get_d_from : (f : ℕ → A) (a n i : ℕ) (d : A) → i < n → get_or (list_from f a n) i d ≡ f (a + i)
   unfolding list_from
-  getD-from f a zero i d h = absurd (omega arith)
-  getD-from f a (suc n) zero d h = rw add-zero
-  getD-from f a (suc n) (suc i) d h = getD-from f (suc a) n i d (omega arith) ∙ ap f (omega arith)
+  get_d_from f a zero i d h = absurd (omega arith)
+  get_d_from f a (suc n) zero d h = rw add-zero
+  get_d_from f a (suc n) (suc i) d h = get_d_from f (suc a) n i d (omega arith) ∙ ap f (omega arith)
 
   pub get_d_past : (f : ℕ → A) (a n i : ℕ) (d : A) → n ≤ i → get_or (list_from f a n) i d ≡ d
   unfolding list_from

@@ -7,7 +7,7 @@ use native.Mathlib.Omega.{arith}
 use Rattle.words.specs.Lists.{list_from}
 use Rattle.emitter.specs.Emitter.{emitter_of}
 use Rattle.bemitondry_emitter.specs.Emitter.{lent_light}
-use Rattle.bemitondry_emitter.proofs.Records.{emitter-none, emitter-more}
+use Rattle.bemitondry_emitter.proofs.Records.{emitter_none, emitter_more}
 use Rattle.bemitondry_emitter.proofs.emitter_in.Statement.{statement}
 use Rattle.bemitondry_emitter.proofs.emitter_in.Tie as tie
 
@@ -18,12 +18,12 @@ abbrev decreases-loop : tie.decreases-loop
 decreases-loop b n ro rd tmax best₀ i₀ best i = n - i
 
 loop-holds : tie.Need-loop-init invariant-loop decreases-loop
-loop-holds c = (search rules, sym (emitter-none _ _ _ _))
+loop-holds c = (search rules, sym (emitter_none _ _ _ _))
 
 loop-again : tie.Need-loop-preserved invariant-loop decreases-loop
 loop-again c = (
   omega arith,
-  rw (emitter-more, zero-add, c.emitter-step.ensures, c.before.light-in.ensures)
+  rw (emitter_more, zero-add, c.emitter-step.ensures, c.before.light-in.ensures)
       (rw c.before.before.before.loop.invariant.1),
 )
 

@@ -7,7 +7,7 @@ use native.Mathlib.Nat.{zero-add}
 use native.Mathlib.Omega.{arith}
 use Rattle.words.specs.Lists.{list_from}
 use Rattle.refusals.specs.Refusals.{lowest_of}
-use Rattle.refusals.proofs.Lowest.{lowest_start, lowest-more}
+use Rattle.refusals.proofs.Lowest.{lowest_start, lowest_more}
 use Rattle.record_test.specs.Numbers.{light_number}
 use Rattle.bemitondry_emitter.specs.Emitter.{lent_light}
 use Rattle.bemitondry_emitter.proofs.lights_number.Statement.{statement}
@@ -25,7 +25,7 @@ loop-holds c = (search rules, lowest_start light_number (lent_light c.before.arg
 loop-again : tie.Need-loop-preserved invariant-loop decreases-loop
 loop-again c = (
   omega arith,
-  rw (lowest-more, zero-add, c.lower.ensures, c.before.light-number.ensures)
+  rw (lowest_more, zero-add, c.lower.ensures, c.before.light-number.ensures)
       (rw (c.before.before.light-in.ensures, c.before.before.before.before.loop.invariant.1)),
 )
 

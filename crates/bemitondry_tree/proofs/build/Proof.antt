@@ -1,5 +1,5 @@
 -- `bemitondry_tree::build` meets its contract: the tree where it is low enough, and else both tables zero. Assumes nothing.
-use Rattle.bemitondry_tree.proofs.Raises.{builds, builds-deep, builds-not}
+use Rattle.bemitondry_tree.proofs.Raises.{builds, builds_deep, builds_not}
 use borrow.Author.Rules.{rules}
 use Rattle.bemitondry_tree.proofs.build.Statement.{statement}
 use Rattle.bemitondry_tree.proofs.build.Tie as tie
@@ -25,7 +25,7 @@ returns-2 c =
     let u = t.before.before in
     let b = u.before in
     let i = b.before.before.before in
-    builds-deep _ _ _ _ _ _ _ _ _ _ i.before.objects-number.ensures i.if1.true b.build.ensures.few
+    builds_deep _ _ _ _ _ _ _ _ _ _ i.before.objects-number.ensures i.if1.true b.build.ensures.few
     u.unless.ensures t.before.lower.ensures _ _ _ _ _ j.before.clear-arg3.given.0.1
     k.before.clear-arg4.given.0.1 j.clear3.ensures k.clear4.ensures t.if2.false c.refused.ensures
 
@@ -34,7 +34,7 @@ returns-3 c =
     let i = c.before.before in
     let y = i.before.before in
     let x = y.before.before in
-    builds-not _ _ _ _ _ _ _ _ _ i.before.objects-number.ensures i.if1.false c.before.lower2.ensures
+    builds_not _ _ _ _ _ _ _ _ _ i.before.objects-number.ensures i.if1.false c.before.lower2.ensures
     x.before.clear-arg.given.0.1 y.before.clear-arg2.given.0.1 x.clear.ensures y.clear2.ensures
     c.refused2.ensures
 

@@ -9,7 +9,7 @@ use mathlib.Core.Path.{◌≡◌}
 use native.Mathlib.Omega.{arith}
 use lib.ListN.{length, take}
 use Rattle.words.specs.Lists.{list_from}
-use Rattle.words.proofs.Runs.{fill_none, fill_more, fill-all}
+use Rattle.words.proofs.Runs.{fill_none, fill_more, fill_all}
 use Rattle.bemitondry_tree.specs.Trees.{front_word}
 use Rattle.bemitondry_tree.proofs.copy_front.Statement.{statement}
 use Rattle.bemitondry_tree.proofs.copy_front.Tie as tie
@@ -37,7 +37,7 @@ loop-again c =
 
 returns : tie.Need-returns invariant-loop decreases-loop
 returns c =
-    let l = c.before.loop in fill-all (front_word _ _ _) l.to l.i _ l.invariant.1 (search rules) (search rules)
+    let l = c.before.loop in fill_all (front_word _ _ _) l.to l.i _ l.invariant.1 (search rules) (search rules)
     l.invariant.2
 
 pub copy_front_spec : {M : Type 1} → statement M

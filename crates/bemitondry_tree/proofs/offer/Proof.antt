@@ -1,7 +1,7 @@
 -- `bemitondry_tree::offer` meets its contract: an accepted tree's words, and else both tables zero. Assumes nothing.
 use Rattle.bvh_build.proofs.Whole.{objects_count}
 use Rattle.bemitondry_tree.specs.Trees.{judged_tree}
-use Rattle.bemitondry_tree.proofs.Raises.{offers, offers-bad, offers-not}
+use Rattle.bemitondry_tree.proofs.Raises.{offers, offers_bad, offers_not}
 use borrow.Author.Rules.{rules}
 use Rattle.bemitondry_tree.proofs.offer.Statement.{statement}
 use Rattle.bemitondry_tree.proofs.offer.Tie as tie
@@ -30,7 +30,7 @@ returns-2 c =
     let t = j.before.before in
     let u = t.before in
     let v = u.before.before in
-    offers-bad _ _ _ _ _ _ _ v.before.before.objects-number.ensures v.before.if1.true v.judge.ensures
+    offers_bad _ _ _ _ _ _ _ v.before.before.objects-number.ensures v.before.if1.true v.judge.ensures
     u.before.offered-number.ensures u.lower.ensures _ _ _ _ _ j.before.clear-arg.given.0.1
     k.before.clear-arg2.given.0.1 j.clear.ensures k.clear2.ensures t.if2.false c.refused.ensures
 
@@ -39,7 +39,7 @@ returns-3 c =
     let k = c.before.before in
     let j = k.before.before in
     let i = j.before.before in
-    offers-not _ _ _ _ _ _ _ _ _ _ i.before.objects-number.ensures i.if1.false c.before.lower2.ensures
+    offers_not _ _ _ _ _ _ _ _ _ _ i.before.objects-number.ensures i.if1.false c.before.lower2.ensures
     j.before.clear-arg3.given.0.1 k.before.clear-arg4.given.0.1 j.clear3.ensures k.clear4.ensures
     c.refused2.ensures
 

@@ -2,7 +2,7 @@
 use Rattle.std.proofs.Common.{◌≡◌, ℕ, ◌-◌, ◌/◌, ◌≤◌, length, take, replicate, refl, ap, ◌∙◌, arith, rules}
 use Rattle.bvh_boxes.specs.Boxes.{nowhere}
 use Rattle.bvh_range.specs.Inside.Table.{table_boxes}
-use Rattle.bvh_bins.proofs.Turns.{length-turn, empty-turn, empty_all}
+use Rattle.bvh_bins.proofs.Turns.{length_turn, empty_turn, empty_all}
 use Rattle.bvh_bins.proofs.empty_boxes.Statement.{statement}
 use Rattle.bvh_bins.proofs.empty_boxes.Tie as tie
 
@@ -21,8 +21,8 @@ loop-again c = let L = c.before.before.before.before.before.before.loop in
     let p = c.before.before.put-row.ensures in
     let h = c.before.before.before.before.before.loop-test.true in (
       omega arith,
-      length-turn L.t _ L.k _ p ∙ L.invariant.1,
-      empty-turn L.t _ L.k _ p c.before.before.before.no_row.ensures h L.invariant.2,
+      length_turn L.t _ L.k _ p ∙ L.invariant.1,
+      empty_turn L.t _ L.k _ p c.before.before.before.no_row.ensures h L.invariant.2,
     )
 
 returns : tie.Need-returns invariant-loop decreases-loop

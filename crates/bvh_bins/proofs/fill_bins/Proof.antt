@@ -7,7 +7,7 @@ use Rattle.bvh_bins.specs.Inside.Sums.{binned}
 use Rattle.bvh_bins.specs.Inside.Places.{Noted}
 use Rattle.bvh_bins.specs.Inside.Sums.{AllNumbers}
 use Rattle.bvh_bins.proofs.Numbers.{all_turn}
-use Rattle.bvh_bins.proofs.Turns.{bins_turn, bins-none}
+use Rattle.bvh_bins.proofs.Turns.{bins_turn, bins_none}
 use Rattle.bvh_bins.proofs.Placed.{bin_few, noted_turn}
 use Rattle.bvh_bins.proofs.fill_bins.Statement.{statement}
 use Rattle.bvh_bins.proofs.fill_bins.Tie as tie
@@ -81,7 +81,7 @@ returns : tie.Need-returns invariant-loop decreases-loop
 returns c =
     let L = c.before.loop.invariant in
     let e = c.loop-test.false in
-    (λ h. sym (bins-none _ _ _ _ _ e) ∙ (L.1 h).0, λ j h l. L.3 j (omega arith) l)
+    (λ h. sym (bins_none _ _ _ _ _ e) ∙ (L.1 h).0, λ j h l. L.3 j (omega arith) l)
 
 pub fill_bins_spec : {M : Type 1} → statement M
 fill_bins_spec =

@@ -1,12 +1,12 @@
 -- `bvh_bins::sweep_left` meets its contract: both lists are filled up to the bin that is next. Assumes nothing.
 use Rattle.std.proofs.Common.{◌≡◌, ◌-◌, ◌≤◌, length, take, sym, subst, arith, rules}
 use Rattle.words.specs.Lists.{list_from}
-use Rattle.words.proofs.Runs.{fill_more, fill-all}
+use Rattle.words.proofs.Runs.{fill_more, fill_all}
 use Rattle.bvh_range.specs.Inside.Numbers.{Numbers}
 use Rattle.bvh_bins.specs.Bins.{left_box, left_count}
 use Rattle.bvh_bins.specs.Inside.Sums.{binned, left_area, left_through}
 use Rattle.bvh_bins.proofs.Numbers.{left_numbers}
-use Rattle.bvh_bins.proofs.Turns.{box-turn, count_turn, area-turn, through-turn}
+use Rattle.bvh_bins.proofs.Turns.{box_turn, count_turn, area_turn, through_turn}
 use Rattle.bvh_bins.proofs.sweep_left.Statement.{statement}
 use Rattle.bvh_bins.proofs.sweep_left.Tie as tie
 
@@ -30,7 +30,7 @@ loop-again c =
     let a = l.before.before.before.before.before.before.args in
     let σ = binned a.b.now a.n.now in
     let w = c.before.before.before.wider.ensures (subst Numbers (sym L.invariant.3) (left_numbers σ L.i)) in
-    let h = box-turn σ L.i _ _ _ w
+    let h = box_turn σ L.i _ _ _ w
     c.before.before.before.before.box-at.ensures L.invariant.3 in
     let n = count_turn σ L.i _ _ c.before.plus.ensures L.invariant.4 in (
       omega arith,
@@ -38,14 +38,14 @@ loop-again c =
       search rules,
       h,
       n,
-      fill_more _ L.areas L.i _ (omega arith) (area-turn σ L.i _ _ c.area.ensures h) L.invariant.5,
-      fill_more _ L.counts L.i _ (omega arith) (through-turn σ L.i _ n) L.invariant.6,
+      fill_more _ L.areas L.i _ (omega arith) (area_turn σ L.i _ _ c.area.ensures h) L.invariant.5,
+      fill_more _ L.counts L.i _ (omega arith) (through_turn σ L.i _ n) L.invariant.6,
     )
 
 returns : tie.Need-returns invariant-loop decreases-loop
 returns c = let L = c.before.loop.invariant in (
-  fill-all _ _ _ 12 L.1 (omega arith) (omega arith) L.5,
-  fill-all _ _ _ 12 L.2 (omega arith) (omega arith) L.6,
+  fill_all _ _ _ 12 L.1 (omega arith) (omega arith) L.5,
+  fill_all _ _ _ 12 L.2 (omega arith) (omega arith) L.6,
 )
 
 pub sweep_left_spec : {M : Type 1} → statement M

@@ -1,9 +1,9 @@
 -- `bvh_build::build_recursive` meets its contract: each return is a case of one level, and the range shrinks at each
 -- call. Assumes nothing.
 use Rattle.std.proofs.Common.{◌≡◌, ℕ, ◌<◌, ◌++◌, length, drop, sym, arith, rules}
-use Rattle.bvh_build.proofs.Level.{Cut, cut-known, back-length, right-falls, whole_length, lays_none}
-use Rattle.bvh_build.proofs.Level.{lays-leaf}
-use Rattle.bvh_build.proofs.Level.{lays-node}
+use Rattle.bvh_build.proofs.Level.{Cut, cut_known, back_length, right_falls, whole_length, lays_none}
+use Rattle.bvh_build.proofs.Level.{lays_leaf}
+use Rattle.bvh_build.proofs.Level.{lays_node}
 use borrow.Fn.Kinds.{In}
 use borrow.Fn.PlainCycle.{Measures, is, falls, and}
 use Rattle.bvh_build.proofs.build_recursive.Reads as build-recursive
@@ -78,7 +78,7 @@ cut_of
 cut_of t c =
     let s = c.before.before.before in
     let o = s.before.before.before.before in
-    cut-known _ _ _ _ _ o.Span-of.ensures s.before.extent.ensures s.stops.ensures _ _
+    cut_known _ _ _ _ _ o.Span-of.ensures s.before.extent.ensures s.stops.ensures _ _
     c.before.before.if2.false c.cut.ensures
 
 back_of : (t : ℕ) (c : build-recursive-lts.After-build-recursive (R t) (build_recursive_at t) build-recursive.Post)
@@ -87,7 +87,7 @@ back_of : (t : ℕ) (c : build-recursive-lts.After-build-recursive (R t) (build_
     c.before.before.before.before.before.before.cut.new.0)
     ≡ length (start_of_lem t c.before.before.before.before.before.before).args.os.now
 back_of t c =
-    back-length _ _ c.build-recursive.new.1.0 _ (cut_of t c.before.before.before.before.before.before)
+    back_length _ _ c.build-recursive.new.1.0 _ (cut_of t c.before.before.before.before.before.before)
     c.build-recursive.auto.1.0
 
 build_recursive_returns
@@ -134,7 +134,7 @@ build_recursive_returns_2 t c =
     let n = c.before.before in
     let s = n.before.before.before in
     let o = s.before.before.before.before in
-    lays-leaf _ _ _ _ _ o.Span-of.ensures s.before.extent.ensures s.stops.ensures _ _ _ _ _ _ _
+    lays_leaf _ _ _ _ _ o.Span-of.ensures s.before.extent.ensures s.stops.ensures _ _ _ _ _ _ _
     n.before.before.if2.true n.narrow.ensures
     c.before.narrow2.ensures c.put-node.ensures
 
@@ -212,7 +212,7 @@ build_recursive_build_recursive_requires_2 :
 build_recursive_build_recursive_requires_2 t c κs =
     let l = c.before.before.before.before.before.before.before.before in
     let k = l.before.before.before.before.before.before in (
-      right-falls _ _ l.build-recursive.new.1.0 _ (cut_of t k) l.build-recursive.auto.1.0 _
+      right_falls _ _ l.build-recursive.new.1.0 _ (cut_of t k) l.build-recursive.auto.1.0 _
           (start_of_lem t k).requires.0,
       tt,
     )
@@ -241,7 +241,7 @@ build_recursive_returns_3 t c =
     let k = d.before.before.before in
     let s = k.before.before.before in
     let o = s.before.before.before.before in
-    lays-node _ _ _ _ _ o.Span-of.ensures s.before.extent.ensures s.stops.ensures _ _ _ _
+    lays_node _ _ _ _ _ o.Span-of.ensures s.before.extent.ensures s.stops.ensures _ _ _ _
     k.cut.result k.cut.new.0 _ _ _
     l.build-recursive.new.1.0 _ _ _ _ _ r.build-recursive2.new.1.0 _ k.before.before.if2.false
     k.cut.ensures d.less.ensures

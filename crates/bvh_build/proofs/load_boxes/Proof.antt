@@ -2,8 +2,8 @@
 use Rattle.std.proofs.Common.{◌-◌, ◌≤◌, arith, rules}
 use Rattle.plan.specs.Plan.{plan_of}
 use Rattle.bvh_boxes.specs.Boxes.{boxes_of}
-use Rattle.bvh_boxes.proofs.Lists.{box-count}
-use Rattle.bvh_build.proofs.Turns.{Loaded, load-none, load-more, load-all}
+use Rattle.bvh_boxes.proofs.Lists.{box_count}
+use Rattle.bvh_build.proofs.Turns.{Loaded, load_none, load_more, load_all}
 use Rattle.bvh_build.proofs.load_boxes.Statement.{statement}
 use Rattle.bvh_build.proofs.load_boxes.Tie as tie
 
@@ -16,7 +16,7 @@ decreases-loop ws fs t₀ n o₀ t o = n - o
 loop-holds : tie.Need-loop-init invariant-loop decreases-loop
 loop-holds c =
     let a = c.before.before.args in
-    (search rules, load-none (boxes_of (plan_of a.ws.now a.fs.now)) a.t.now)
+    (search rules, load_none (boxes_of (plan_of a.ws.now a.fs.now)) a.t.now)
 
 loop-again : tie.Need-loop-preserved invariant-loop decreases-loop
 loop-again c =
@@ -25,8 +25,8 @@ loop-again c =
     let L = l.loop in
     let a = l.before.before.before.args in (
       omega arith,
-      load-more (boxes_of (plan_of a.ws.now a.fs.now)) _ L.t _ L.o _
-          (omega (arith, box-count a.ws.now a.fs.now))
+      load_more (boxes_of (plan_of a.ws.now a.fs.now)) _ L.t _ L.o _
+          (omega (arith, box_count a.ws.now a.fs.now))
           p.before.object-box.ensures p.put-box.ensures L.invariant.1,
     )
 
@@ -34,8 +34,8 @@ returns : tie.Need-returns invariant-loop decreases-loop
 returns c =
     let L = c.before.loop in
     let a = c.before.before.before.before.args in
-    load-all (boxes_of (plan_of a.ws.now a.fs.now)) _ L.t L.o
-    (omega (arith, box-count a.ws.now a.fs.now)) L.invariant.1
+    load_all (boxes_of (plan_of a.ws.now a.fs.now)) _ L.t L.o
+    (omega (arith, box_count a.ws.now a.fs.now)) L.invariant.1
 
 pub load_boxes_spec : {M : Type 1} → statement M
 load_boxes_spec =

@@ -1,7 +1,7 @@
 -- `bvh_build::number` meets its contract: the places passed hold their numbers. Assumes nothing.
 use Rattle.std.proofs.Common.{◌≡◌, ◌-◌, ◌≤◌, length, take, refl, ◌∙◌, arith, length-set, rules}
 use Rattle.words.specs.Lists.{list_from}
-use Rattle.words.proofs.Runs.{fill_none, fill_more, fill-all}
+use Rattle.words.proofs.Runs.{fill_none, fill_more, fill_all}
 use Rattle.bvh_build.specs.Inside.Narrow.{low32}
 use Rattle.bvh_build.proofs.number.Statement.{statement}
 use Rattle.bvh_build.proofs.number.Tie as tie
@@ -24,7 +24,7 @@ loop-again c =
     )
 
 returns : tie.Need-returns invariant-loop decreases-loop
-returns c = let L = c.before.loop in fill-all low32 L.os L.i _ L.invariant.1 (omega arith) (omega arith) L.invariant.2
+returns c = let L = c.before.loop in fill_all low32 L.os L.i _ L.invariant.1 (omega arith) (omega arith) L.invariant.2
 
 pub number_spec : {M : Type 1} → statement M
 number_spec =

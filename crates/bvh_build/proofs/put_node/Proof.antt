@@ -2,7 +2,7 @@
 -- nothing.
 use Rattle.std.proofs.Common.{sym, arith, rules}
 use Rattle.bvh_build.proofs.Turns.{node_put}
-use Rattle.bvh_build.proofs.Laid.{laid-past}
+use Rattle.bvh_build.proofs.Laid.{laid_past}
 use Rattle.bvh_build.proofs.put_node.Statement.{statement}
 use Rattle.bvh_build.proofs.put_node.Tie as tie
 
@@ -15,7 +15,7 @@ returns c =
     c.bits6.ensures
 
 returns-2 : tie.Need-returns-2
-returns-2 c = sym (laid-past _ _ _ (omega arith))
+returns-2 c = sym (laid_past _ _ _ (omega arith))
 
 pub put_node_spec : {M : Type 1} → statement M
 put_node_spec =

@@ -3,8 +3,8 @@
 use borrow.Author.Rules.{rules}
 use native.Mathlib.Nat.{pos_of_ne-zero}
 use native.Mathlib.Omega.{arith}
-use Rattle.bvh_rules.proofs.Level.{check-none, check-wrong, check-leaf, check-left-bad, check-right}
-use Rattle.bvh_rules.proofs.Level.{check-other}
+use Rattle.bvh_rules.proofs.Level.{check_none, check_wrong, check_leaf, check_left_bad, check_right}
+use Rattle.bvh_rules.proofs.Level.{check_other}
 use Prim.Native.Nat.{ℕ, ◌<◌}
 use borrow.Fn.Kinds.{In}
 use borrow.Fn.PlainCycle.{Measures, is, falls, and}
@@ -37,7 +37,7 @@ R t = (
 )
 
 check_sub_returns : (t : ℕ) → check-sub-lts.Need-returns (R t) (check_sub_at t) check-sub.Post
-check_sub_returns t c = check-none _ _ _ _ _ _ _ _ c.if1.true
+check_sub_returns t c = check_none _ _ _ _ _ _ _ _ c.if1.true
 
 check_sub_node_at_requires : (t : ℕ) → check-sub-lts.Need-node-at-requires (R t) (check_sub_at t) check-sub.Post
 check_sub_node_at_requires t c κs = search rules
@@ -75,12 +75,12 @@ check_sub_check_sub_requires_2 t c κs = omega arith
 
 check_sub_returns_2 : (t : ℕ) → check-sub-lts.Need-returns-2 (R t) (check_sub_at t) check-sub.Post
 check_sub_returns_2 t c =
-    check-wrong _ _ _ _ _ _ _ _ c.before.before.before.Node-at.ensures _ c.before.before.kind-of.ensures _
+    check_wrong _ _ _ _ _ _ _ _ c.before.before.before.Node-at.ensures _ c.before.before.kind-of.ensures _
     (pos_of_ne-zero c.before.before.before.before.if1.false) c.enum_told.given.1
 
 check_sub_returns_3 : (t : ℕ) → check-sub-lts.Need-returns-3 (R t) (check_sub_at t) check-sub.Post
 check_sub_returns_3 t c =
-    check-leaf _ _ _ _ _ _ _ _ c.before.before.before.before.Node-at.ensures _
+    check_leaf _ _ _ _ _ _ _ _ c.before.before.before.before.Node-at.ensures _
     c.before.before.before.kind-of.ensures _
     (pos_of_ne-zero c.before.before.before.before.before.if1.false) _ _ c.before.k.given.1
 
@@ -89,7 +89,7 @@ check_sub_returns_4 t c =
     let p = c.before.before in
     let k = p.before.before in
     let o = k.before.before in
-    check-left-bad _ _ _ _ _ _ _ _ o.before.Node-at.ensures _ o.kind-of.ensures _
+    check_left_bad _ _ _ _ _ _ _ _ o.before.Node-at.ensures _ o.kind-of.ensures _
     (pos_of_ne-zero o.before.before.if1.false) _ _ k.k2.given.1 _ p.check-sub.ensures
     c.enum-told2.given.1
 
@@ -99,7 +99,7 @@ check_sub_returns_5 t c =
     let p = q.before.before in
     let k = p.before.before in
     let o = k.before.before in
-    check-right _ _ _ _ _ _ _ _ o.before.Node-at.ensures _ o.kind-of.ensures _
+    check_right _ _ _ _ _ _ _ _ o.before.Node-at.ensures _ o.kind-of.ensures _
     (pos_of_ne-zero o.before.before.if1.false) _ _ k.k2.given.1 _ p.check-sub.ensures _ _
     q.part.given.1 _ c.before.if2.true c.check-sub2.ensures
 
@@ -109,7 +109,7 @@ check_sub_returns_6 t c =
     let p = q.before.before in
     let k = p.before.before in
     let o = k.before.before in
-    check-other _ _ _ _ _ _ _ _ o.before.Node-at.ensures _ o.kind-of.ensures _
+    check_other _ _ _ _ _ _ _ _ o.before.Node-at.ensures _ o.kind-of.ensures _
     (pos_of_ne-zero o.before.before.if1.false) _ _ k.k2.given.1 _ p.check-sub.ensures _ _
     q.part.given.1 c.if2.false
 

@@ -5,7 +5,7 @@ use mathlib.Core.Path.{◌≡◌, sym, ◌∙◌}
 use native.Mathlib.Omega.{arith}
 use Rattle.bvh_rules.specs.Nodes.{order_of}
 use Rattle.bvh_rules.specs.Inside.Steps.{marks_of, order_ok}
-use Rattle.bvh_rules.proofs.Lists.{marks-end, marks-high, marks-twice, marks-step, order_few, order_many}
+use Rattle.bvh_rules.proofs.Lists.{marks_end, marks_high, marks_twice, marks_step, order_few, order_many}
 use Rattle.bvh_check.proofs.check_order.Statement.{statement}
 use Rattle.bvh_check.proofs.check_order.Tie as tie
 
@@ -24,13 +24,13 @@ loop-holds c = (omega arith, omega arith, sym (order_few _ _ c.if1.false))
 
 returns-2 : tie.Need-returns-2 invariant-loop decreases-loop
 returns-2 c =
-    sym (marks-high _ _ _ _ c.before.before.loop-test.true _ c.before.order-at.ensures c.if2.true)
+    sym (marks_high _ _ _ _ c.before.before.loop-test.true _ c.before.order-at.ensures c.if2.true)
     ∙ c.before.before.before.loop.invariant.2
 
 returns-3 : tie.Need-returns-3 invariant-loop decreases-loop
 returns-3 c =
     sym
-    (marks-twice _ _ _ _ c.before.before.before.loop-test.true _ c.before.before.order-at.ensures
+    (marks_twice _ _ _ _ c.before.before.before.loop-test.true _ c.before.before.order-at.ensures
     c.before.if2.false c.if3.true)
     ∙ c.before.before.before.before.loop.invariant.2
 
@@ -38,12 +38,12 @@ loop-again : tie.Need-loop-preserved invariant-loop decreases-loop
 loop-again c = (
   omega arith,
   c.before.before.before.before.loop.invariant.1,
-  sym (marks-step _ _ _ _ c.before.before.before.loop-test.true _ c.before.before.order-at.ensures
+  sym (marks_step _ _ _ _ c.before.before.before.loop-test.true _ c.before.before.order-at.ensures
       c.before.if2.false c.if3.false) ∙ c.before.before.before.before.loop.invariant.2,
 )
 
 returns-4 : tie.Need-returns-4 invariant-loop decreases-loop
-returns-4 c = sym (marks-end _ _ _ _ c.loop-test.false) ∙ c.before.loop.invariant.2
+returns-4 c = sym (marks_end _ _ _ _ c.loop-test.false) ∙ c.before.loop.invariant.2
 
 pub check_order_spec : {M : Type 1} → statement M
 check_order_spec =

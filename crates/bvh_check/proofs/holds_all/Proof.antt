@@ -9,7 +9,7 @@ use Rattle.plan.specs.Plan.{plan_of}
 use Rattle.bvh_boxes.specs.Boxes.{boxes_of}
 use Rattle.bvh_rules.specs.Nodes.{order_of}
 use Rattle.bvh_rules.specs.Inside.Steps.{holds_all}
-use Rattle.bvh_rules.proofs.Lists.{holds-none, holds_more}
+use Rattle.bvh_rules.proofs.Lists.{holds_none, holds_more}
 use Rattle.bvh_rules.proofs.Tests.{holds_not}
 use Rattle.bvh_check.proofs.holds_all.Statement.{statement}
 use Rattle.bvh_check.proofs.holds_all.Tie as tie
@@ -24,7 +24,7 @@ decreases-loop ws fs b start count j₀ j = count - j
 loop-holds : tie.Need-loop-init invariant-loop decreases-loop
 loop-holds c =
     let a = c.args in
-    (search rules, holds-none (order_of a.ws.now) (boxes_of (plan_of a.ws.now a.fs.now)) a.b a.start)
+    (search rules, holds_none (order_of a.ws.now) (boxes_of (plan_of a.ws.now a.fs.now)) a.b a.start)
 
 returns : tie.Need-returns invariant-loop decreases-loop
 returns c =

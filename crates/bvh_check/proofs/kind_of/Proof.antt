@@ -1,8 +1,8 @@
 -- `bvh_check::kind_of` meets its contract: each return is a case of `kind_of`. Assumes nothing.
 use mathlib.Core.Path.{sym, ◌∙◌}
 use native.Mathlib.Omega.{arith}
-use Rattle.bvh_rules.proofs.Level.{hull_at, leaf-start, kind-out, kind-inner, kind-started, kind-leaf}
-use Rattle.bvh_rules.proofs.Level.{kind-no-leaf}
+use Rattle.bvh_rules.proofs.Level.{hull_at, leaf_start, kind_out, kind_inner, kind_started, kind_leaf}
+use Rattle.bvh_rules.proofs.Level.{kind_no_leaf}
 use borrow.Author.Rules.{rules}
 use Rattle.bvh_check.proofs.kind_of.Statement.{statement}
 use Rattle.bvh_check.proofs.kind_of.Tie as tie
@@ -17,14 +17,14 @@ add-t11 c =
 
 returns : tie.Need-returns
 returns c =
-    kind-inner _ _ _ _ _ _
+    kind_inner _ _ _ _ _ _
     (sym c.before.before.before.before.before.hull-ok.ensures
     ∙ c.before.before.before.before.if1.true)
     c.before.before.if2.true c.if3.true
 
 returns-2 : tie.Need-returns-2
 returns-2 c =
-    kind-started _ _ _ _ _ _
+    kind_started _ _ _ _ _ _
     (sym c.before.before.before.before.before.hull-ok.ensures
     ∙ c.before.before.before.before.if1.true)
     c.before.before.if2.true c.if3.false
@@ -41,26 +41,26 @@ add-t15 : tie.Need-overflow-add-t15
 add-t15 c =
     omega (
       arith,
-      leaf-start _ _ _ _ (sym c.before.before.leaf-ok.ensures ∙ c.before.if4.true),
+      leaf_start _ _ _ _ (sym c.before.before.leaf-ok.ensures ∙ c.before.if4.true),
       c.before.before.before.before.before.before.before.well-formed,
     )
 
 returns-3 : tie.Need-returns-3
 returns-3 c =
-    kind-leaf _ _ _ _ _ _
+    kind_leaf _ _ _ _ _ _
     (sym c.before.before.before.before.before.before.hull-ok.ensures
     ∙ c.before.before.before.before.before.if1.true)
     c.before.before.before.if2.false (sym c.before.before.leaf-ok.ensures ∙ c.before.if4.true)
 
 returns-4 : tie.Need-returns-4
 returns-4 c =
-    kind-no-leaf _ _ _ _ _ _
+    kind_no_leaf _ _ _ _ _ _
     (sym c.before.before.before.before.before.hull-ok.ensures
     ∙ c.before.before.before.before.if1.true)
     c.before.before.if2.false (sym c.before.leaf-ok.ensures ∙ c.if4.false)
 
 returns-5 : tie.Need-returns-5
-returns-5 c = kind-out _ _ _ _ _ _ (sym c.before.hull-ok.ensures ∙ c.if1.false)
+returns-5 c = kind_out _ _ _ _ _ _ (sym c.before.hull-ok.ensures ∙ c.if1.false)
 
 pub kind_of_spec : {M : Type 1} → statement M
 kind_of_spec =

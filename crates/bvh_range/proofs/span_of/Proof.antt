@@ -8,7 +8,7 @@ use Rattle.bvh_range.specs.Inside.Table.{table_boxes}
 use Rattle.bvh_range.specs.Inside.Numbers.{Numbers}
 use Rattle.bvh_range.specs.Range.{members, span_from, span_of}
 use Rattle.bvh_range.proofs.Numbers.{nowhere_numbers, merge_numbers}
-use Rattle.bvh_range.proofs.Members.{span-turn, span_none}
+use Rattle.bvh_range.proofs.Members.{span_turn, span_none}
 use Rattle.bvh_range.proofs.span_of.Statement.{statement}
 use Rattle.bvh_range.proofs.span_of.Tie as tie
 
@@ -47,7 +47,7 @@ loop-again c =
     let h = w.wider.ensures L.invariant.2 in
     let k = c.wider2.ensures L.invariant.3 in (
       omega arith,
-      span-turn _ a.os.now L.i _ _ _ _ _ _ _ m.before.loop-test.true
+      span_turn _ a.os.now L.i _ _ _ _ _ _ _ m.before.loop-test.true
           (w.before.box_in.ensures ∙ m.member.ensures) h c.before.point-of.ensures k L.invariant.1,
       subst Numbers (sym h) (merge_numbers _ _ L.invariant.2),
       subst Numbers (sym k) (merge_numbers _ _ L.invariant.3),

@@ -1,8 +1,8 @@
 -- `bvh_rows::object_box` meets its contract: the box of the row that is read, or by the call. Assumes nothing.
 use Rattle.plan.specs.Plan.{piece_at}
-use Rattle.plan.proofs.Lists.{head-row}
+use Rattle.plan.proofs.Lists.{head_row}
 use Rattle.bvh_boxes.specs.Boxes.{object_box}
-use Rattle.bvh_boxes.proofs.Lists.{box-here}
+use Rattle.bvh_boxes.proofs.Lists.{box_here}
 use borrow.Author.Rules.{rules}
 use Rattle.bvh_rows.proofs.object_box.Statement.{statement}
 use Rattle.bvh_rows.proofs.object_box.Tie as tie
@@ -12,7 +12,7 @@ unfolding piece_at object_box
 returns c =
     let a6 = c.before.before.before.before.before.before in
     let i = a6.before.before.before.before.before.before in
-    rw (box-here _ _ _ i.if1.true, head-row, c.box_in.ensures)
+    rw (box_here _ _ _ i.if1.true, head_row, c.box_in.ensures)
 
 pub object_box_spec : {M : Type 1} → statement M
 object_box_spec =

@@ -2,7 +2,7 @@
 use Rattle.std.proofs.Common.{◌≡◌, ◌-◌, ◌≤◌, arith, rules}
 use Rattle.bvh_rules.specs.Nodes.{order_of}
 use Rattle.bvh_search.specs.Search.{leaf_hit}
-use Rattle.bvh_search.proofs.Leaves.{hit-none, hit-more}
+use Rattle.bvh_search.proofs.Leaves.{hit_none, hit_more}
 use Rattle.bvh_search.proofs.leaf_hit.Statement.{statement}
 use Rattle.bvh_search.proofs.leaf_hit.Tie as tie
 
@@ -13,12 +13,12 @@ abbrev decreases-loop : tie.decreases-loop
 decreases-loop ws fs p s c hit₀ j₀ hit j = c - j
 
 loop-holds : tie.Need-loop-init invariant-loop decreases-loop
-loop-holds c = let a = c.args in (search rules, hit-none a.ws.now a.fs.now (order_of a.ws.now) a.p a.s a.best)
+loop-holds c = let a = c.args in (search rules, hit_none a.ws.now a.fs.now (order_of a.ws.now) a.p a.s a.best)
 
 loop-again : tie.Need-loop-preserved invariant-loop decreases-loop
 loop-again c = (
   omega arith,
-  rw (hit-more, c.nearer-in.ensures)
+  rw (hit_more, c.nearer-in.ensures)
       (rw c.before.before.loop.invariant.1),
 )
 

@@ -3,8 +3,8 @@
 use Rattle.std.proofs.Common.{◌-◌, [], ◌∷◌, refl, arith, rules}
 use Rattle.bvh_rules.specs.Nodes.{nodes_most, nodes_of, order_of}
 use Rattle.bvh_search.specs.Search.{run_of}
-use Rattle.bvh_search.proofs.Machine.{Busy, step-law, ran_out}
-use Rattle.bvh_search.proofs.Plus.{key_fits, key-wide}
+use Rattle.bvh_search.proofs.Machine.{Busy, step_law, ran_out}
+use Rattle.bvh_search.proofs.Plus.{key_fits, key_wide}
 use Rattle.bvh_search.proofs.run.Statement.{statement}
 use Rattle.bvh_search.proofs.run.Tie as tie
 
@@ -17,7 +17,7 @@ abbrev decreases-loop : tie.decreases-loop
 decreases-loop ws fs p stack₀ keys₀ s₀ stack keys s = nodes_most - s.popped
 
 float-to-float-t15 : tie.Need-float-to-float-t15 invariant-loop decreases-loop
-float-to-float-t15 c = rw c.before.square-at.ensures (key-wide _ _ _ _)
+float-to-float-t15 c = rw c.before.square-at.ensures (key_wide _ _ _ _)
 
 loop-holds : tie.Need-loop-init invariant-loop decreases-loop
 loop-holds c = record {
@@ -39,7 +39,7 @@ returns c =
     let x = c.before.before.before.before in
     let i = x.before.before.before.before.before.loop.invariant in
     let e = x.step.ensures i.waits.limit (rw i.key (key_fits _ _ _ _)) in
-    (step-law _ _ _ _ _ _ _ _ _ _ i x.before.before.before.if1.true _ e).off c.before.before.if2.true
+    (step_law _ _ _ _ _ _ _ _ _ _ i x.before.before.before.if1.true _ e).off c.before.before.if2.true
 
 loop-less : tie.Need-loop-smaller invariant-loop decreases-loop
 loop-less c =
@@ -47,14 +47,14 @@ loop-less c =
     let i = x.before.before.before.before.before.loop.invariant in
     let e = x.step.ensures i.waits.limit (rw i.key (key_fits _ _ _ _)) in
     let few = x.before.before.before.if1.true in
-    omega (arith, few, (step-law _ _ _ _ _ _ _ _ _ _ i few _ e).pops)
+    omega (arith, few, (step_law _ _ _ _ _ _ _ _ _ _ i few _ e).pops)
 
 loop-again : tie.Need-loop-preserved invariant-loop decreases-loop
 loop-again c =
     let x = c.before.before in
     let i = x.before.before.before.before.before.loop.invariant in
     let e = x.step.ensures i.waits.limit (rw i.key (key_fits _ _ _ _)) in
-    (step-law _ _ _ _ _ _ _ _ _ _ i x.before.before.before.if1.true _ e).on c.if2.false
+    (step_law _ _ _ _ _ _ _ _ _ _ i x.before.before.before.if1.true _ e).on c.if2.false
 
 returns-2 : tie.Need-returns-2 invariant-loop decreases-loop
 returns-2 c = ran_out _ _ _ _ _ _ _ _ _ _ c.before.before.before.loop.invariant c.before.if1.false

@@ -61,9 +61,9 @@ use Rattle.emitter.specs.contracts.emitter_step as one'
 use Rattle.emitter.proofs.emitter_step.Symbol as one_def
 use Rattle.emitter.proofs.emitter_step.Symbol.{name as #one}
 use Rattle.emitter.proofs.emitter_step.Met as one-thm
-use Rattle.emitter_list.proofs.Walking.{word, single, slice, tail, State, Nearer, nearer-wf, scaled, dark}
-use Rattle.emitter_list.proofs.Walking.{lent, Owned, light-out, light-back, told, vec, float}
-use Rattle.emitter_list.proofs.Walking.{aimed, aimed_stays, aimed_vals, aimed_tells, aimed-goes, ray-owned}
+use Rattle.emitter_list.proofs.Walking.{word, single, slice, tail, State, Nearer, nearer_wf, scaled, dark}
+use Rattle.emitter_list.proofs.Walking.{lent, Owned, light_out, light_back, told, vec, float}
+use Rattle.emitter_list.proofs.Walking.{aimed, aimed_stays, aimed_vals, aimed_tells, aimed_goes, ray_owned}
 use Rattle.emitter_list.specs.contracts.emitter_among.Key.{name as #among}
 use Rattle.emitter_list.specs.contracts.emitter_among as f
 use Rattle.emitter_list.proofs.emitter_among.Statement as stated
@@ -145,7 +145,7 @@ module _ {M : Type 1} {𝓤 : Ura M} (𝓛 : Logic 𝓤) (mem : Memory → SProp
         (tt, (tt, (tt, (tt, tt))))) $ says ! e $
         nothing ! $ move ! (1 ∷ 0 ∷ []) $ join ! $
         -- [the tokens; what lights owns]
-        ray-owned ! ro rd tmax go gd gt $
+        ray_owned ! ro rd tmax go gd gt $
         move ! (2 ∷ 0 ∷ []) $ fjoin ! $ move ! (1 ∷ 0 ∷ []) $ frame ! $ frame ! $
         owned ! B.the_row (Is B.the_row) (EL.makes B.the_type B'.the_plain 𝓛) r (v ∷ []) g $ done !
 
@@ -156,7 +156,7 @@ module _ {M : Type 1} {𝓤 : Ura M} (𝓛 : Logic 𝓤) (mem : Memory → SProp
     goes_one : (r : Emitted) (v : Val) (l : QuadLight) (vl : Val) → Is B.the_row r (v ∷ [])
         → Is T.the_row l (vl ∷ []) → ent 𝓤 (emp 𝓤) ((One 𝓛 mem run).pre (to_one r v l vl))
     goes_one r v l vl g gl =
-        qed 𝓛 [] ∵ ray-owned ! ro rd tmax go gd gt $
+        qed 𝓛 [] ∵ ray_owned ! ro rd tmax go gd gt $
         owned ! T.the_row (Is T.the_row) (LL.makes T.the_type T'.the_plain 𝓛) l (vl ∷ []) gl $ fjoin ! $
         owned ! B.the_row (Is B.the_row) (EL.makes B.the_type B'.the_plain 𝓛) r (v ∷ []) g $ fjoin ! $
         nothing ! $ join ! $ frame ! $ done !
@@ -222,16 +222,16 @@ module _ {M : Type 1} {𝓤 : Ura M} (𝓛 : Logic 𝓤) (mem : Memory → SProp
           (from ! (stop !)) (init ! 6 refl (tt, tt)) $
           first ! $ branches ! (load ! (from ! (stop !)) (look ! 6 refl))
           (λ less. skips ! $ exec ! C Λ En more (any_q (Turned t)) $
-          assigns ! (bin ! (load ! (from ! (stop !)) (look ! 12 refl)) (lit ! tt) (record { fits = place-fits less }))
-          (from ! (stop !)) (store ! 8 refl (tt, record { fits = place-fits less })) $
+          assigns ! (bin ! (load ! (from ! (stop !)) (look ! 12 refl)) (lit ! tt) (record { fits = place_fits less }))
+          (from ! (stop !)) (store ! 8 refl (tt, record { fits = place_fits less })) $
           assigns ! (bin ! (load ! (from ! (fld ! refl (stop !))) (look_in ! 22 (sub ! 0 refl (whole !))))
           (load ! (from ! (stop !)) (look ! 8 refl)) tt) (from ! (stop !)) (init ! 4 refl (tt, tt)) $
           rewrite ! 4 (λ (p : ℕ). ‵ (fat full_share ty_ptr l₁₀ 0 (vptr b p))) (sym (place_is 60 o t.i)) refl $
-          light-out κ b o γ ys ! tt t.i (below less) (λ q' g.
+          light_out κ b o γ ys ! tt t.i (below less) (λ q' g.
           -- [lights[i]; what it owns; the others; what shuts; the fractured borrow; what lights owns; _11 at 6; …]
           assigns ! (of_opd ! (load ! (from ! (hop ! (look ! 8 refl) (stop !))) (look_raw ! 0 refl))) (from ! (stop !))
           (init ! 6 refl ((LL.lawful T.the_type T'.the_laws 𝓛).typed elem _ g).0) $
-          light-back κ b o γ ys ! tt q' t.i (below less) $
+          light_back κ b o γ ys ! tt q' t.i (below less) $
           -- the invariant's positions again
           assigns ! (of_opd ! (load ! (from ! (stop !)) (look ! 2 refl))) (from ! (stop !))
           (init ! 10 refl ((LL.lawful T.the_type T'.the_laws 𝓛).typed elem _ g).0) $
@@ -263,7 +263,7 @@ module _ {M : Type 1} {𝓤 : Ura M} (𝓛 : Logic 𝓤) (mem : Memory → SProp
           move ! (12 ∷ 13 ∷ []) $ free1 ! $ move ! (10 ∷ 11 ∷ []) $ free1 ! $
           move ! (8 ∷ 9 ∷ []) $ free1 ! $ move ! (6 ∷ 7 ∷ []) $ free1 ! $ move ! (4 ∷ 5 ∷ []) $ free1 ! $
           move ! (2 ∷ 3 ∷ []) $ free1 ! $ free0 ! $
-          by ! (exits t.r t.v t.is (over-is over)))
+          by ! (exits t.r t.v t.is (over_is over)))
         where
           elem : QuadLight
           elem = get_or ys t.i dark
@@ -274,8 +274,8 @@ module _ {M : Type 1} {𝓤 : Ura M} (𝓛 : Logic 𝓤) (mem : Memory → SProp
           below : Tr (ltb t.i n) → t.i < n
           below less = ltb→lt t.i n less
 
-          place-fits : Tr (ltb t.i n) → t.i * 60 < 2 ^ 64
-          place-fits less = scaled n t.i gn (below less)
+          place_fits : Tr (ltb t.i n) → t.i * 60 < 2 ^ 64
+          place_fits less = scaled n t.i gn (below less)
 
           next_fits : Tr (ltb t.i n) → t.i + 1 < 2 ^ 64
           next_fits less = lt_of_le_of_lt (add-one-le (below less)) gn.0
@@ -291,8 +291,8 @@ module _ {M : Type 1} {𝓤 : Ura M} (𝓛 : Logic 𝓤) (mem : Memory → SProp
             keeps = rw e (sym (from_step ro rd tmax t.r ys t.i (below less)) ∙ t.keeps);
           }
 
-          over-is : Tr (not (ltb t.i n)) → t.r ≡ emitter_of ys ro rd tmax
-          over-is over =
+          over_is : Tr (not (ltb t.i n)) → t.r ≡ emitter_of ys ro rd tmax
+          over_is over =
               let e : t.i ≡ n = le_antisymm t.small (nltb→le t.i n over) in
               sym (from_end ro rd tmax t.r ys)
               ∙ ap (λ (k : ℕ). emitter_from ro rd tmax t.r (drop_l k ys)) (sym e) ∙ t.keeps
@@ -308,8 +308,8 @@ module _ {M : Type 1} {𝓤 : Ura M} (𝓛 : Logic 𝓤) (mem : Memory → SProp
         keeps = from_start ro rd tmax ys;
       }
 
-      loop-runs : Sq 𝓛 (At begins) (runs C Λ En steps.t-3 (at_ret En Post))
-      loop-runs = first ! $ blocks ! $ loops ! 𝓣 Near (nearer-wf B.the_row n Keeps) At turns begins
+      loop_runs : Sq 𝓛 (At begins) (runs C Λ En steps.t-3 (at_ret En Post))
+      loop_runs = first ! $ blocks ! $ loops ! 𝓣 Near (nearer_wf B.the_row n Keeps) At turns begins
 
       -- before the body's first statement
       abbrev Passed : List (Item 𝓤)
@@ -319,7 +319,7 @@ module _ {M : Type 1} {𝓤 : Ura M} (𝓛 : Logic 𝓤) (mem : Memory → SProp
       body =
           assigns ! (agg ! (and_then ! (lit ! tt) (no_more !))) (from ! (stop !))
           (init ! 14 refl ((EL.lawful B.the_type B'.the_laws 𝓛 tt).typed Nothing _ none_is).0) $
-          assigns ! (of_opd ! (lit ! tt)) (from ! (stop !)) (init ! 12 refl (tt, record { fits = lit< tt })) $ loop-runs
+          assigns ! (of_opd ! (lit ! tt)) (from ! (stop !)) (init ! 12 refl (tt, record { fits = lit< tt })) $ loop_runs
 
     walk : (𝓣 : Tables 𝓤 H) → Triple 𝓤 (𝓣.C #one) (One 𝓛 mem run)
         → ent 𝓤 (on_entry 𝓛 f.signature (κ, tt) (q, tt) (x, (ro, (rd, (tmax, tt)))) at)
@@ -343,20 +343,20 @@ module _ {M : Type 1} {𝓤 : Ura M} (𝓛 : Logic 𝓤) (mem : Memory → SProp
     (known : Triple 𝓤 (𝓣.C #one) (One 𝓛 mem run)) where
   open 𝓛 use {H}
 
-  among-walks : Walks 𝓛 f.ended aimed_stays (WpFn 𝓤 H 𝓣.C 𝓣.Λ code.function)
+  among_walks : Walks 𝓛 f.ended aimed_stays (WpFn 𝓤 H 𝓣.C 𝓣.Λ code.function)
       (f.clauses 𝓛 mem run)
-  among-walks =
+  among_walks =
       walked 𝓛 f.ended aimed_stays (f.clauses 𝓛 mem run) (WpFn 𝓤 H 𝓣.C 𝓣.Λ code.function)
       aimed_vals aimed_tells
       (λ κs qs bounds a g are. via 𝓤 _ (fst∗ 𝓤 _ (emp 𝓤))
       (walk 𝓛 mem run κs.0 qs.0 a.0.ref_ptr.0 a.0.ref_ptr.1 a.0.ghost_name a.0.now a.1.0
       a.1.1.0 a.1.1.1.0 are.0.0.1 are.1.0 are.1.1.0 are.1.1.1.0 𝓣 known))
 
-  among-meets : Meets 𝓛 f.signature (WpFn 𝓤 H 𝓣.C 𝓣.Λ code.function) (f.spec 𝓛 mem run)
-  among-meets =
-      walk_Meets 𝓛 f.ended aimed_stays (aimed-goes 𝓛)
+  among_meets : Meets 𝓛 f.signature (WpFn 𝓤 H 𝓣.C 𝓣.Λ code.function) (f.spec 𝓛 mem run)
+  among_meets =
+      walk_Meets 𝓛 f.ended aimed_stays (aimed_goes 𝓛)
       (f.clauses 𝓛 mem run) (WpFn 𝓤 H 𝓣.C 𝓣.Λ code.function)
-      (WpFn-mono 𝓤 H 𝓛.laws 𝓣 code.function) among-walks
+      (WpFn-mono 𝓤 H 𝓛.laws 𝓣 code.function) among_walks
 
 pub emitter_among_spec : {M : Type 1} → stated.statement M
 unfolding code.routine tables_of
@@ -364,7 +364,7 @@ emitter_among_spec 𝓤 𝓛 𝓜 𝓡 =
     entered 𝓤 𝓛.H (triple_of 𝓛 f.signature (f.spec 𝓛 𝓜.mem 𝓡.run))
     (tables 𝓤 𝓛.H 𝓜 𝓡 code.env).C (tables 𝓤 𝓛.H 𝓜 𝓡 code.env).Λ #among code.function
     (code.unfolded 𝓤 𝓛.H 𝓜 𝓡)
-    (among-meets 𝓛 𝓜.mem 𝓡.run
+    (among_meets 𝓛 𝓜.mem 𝓡.run
     (tables_of 𝓤 𝓛.H 𝓜 (tables 𝓤 𝓛.H 𝓜 𝓡 code.env))
     (cited 𝓤 𝓛.H (One 𝓛 𝓜.mem 𝓡.run) 𝓜 𝓡 code.env #one one_def.routine
     code.calls-emitter::emitter-step (one-thm.met 𝓤 𝓛 𝓜 𝓡)))

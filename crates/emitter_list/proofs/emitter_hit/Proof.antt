@@ -88,7 +88,7 @@ use Rattle.emitter_list.proofs.answer.Symbol as answer-def
 use Rattle.emitter_list.proofs.answer.Symbol.{name as #answer}
 use Rattle.emitter_list.proofs.answer.Met as answer-thm
 use Rattle.emitter_list.proofs.Walking.{half, word, single, slice, lent, Owned, twice, told, vec, float}
-use Rattle.emitter_list.proofs.Walking.{aimed, aimed_stays, aimed_vals, aimed_tells, aimed-goes, ray-owned}
+use Rattle.emitter_list.proofs.Walking.{aimed, aimed_stays, aimed_vals, aimed_tells, aimed_goes, ray_owned}
 use Rattle.emitter_list.specs.contracts.emitter_hit.Key.{name as #hit}
 use Rattle.emitter_list.specs.contracts.emitter_hit as f
 use Rattle.emitter_list.proofs.emitter_hit.Statement as stated
@@ -101,22 +101,22 @@ unfolding reply_of
 refuses a h r = rw (ne_eqb a 0 h)
 
 module _ (ys : List QuadLight) (ro rd : Vec3) (tmax : Float) where
-  asked-many : few (length ys) ≡ false → asked_number (length ys) ro rd tmax ≡ 0 → ⊥
+  asked_many : few (length ys) ≡ false → asked_number (length ys) ro rd tmax ≡ 0 → ⊥
   unfolding asked_number
-  asked-many e z = true≢false (sym ((unless_zero 1 (few (length ys))).0 ((lower_zero _ _).0 z).0) ∙ e)
+  asked_many e z = true≢false (sym ((unless_zero 1 (few (length ys))).0 ((lower_zero _ _).0 z).0) ∙ e)
 
   many_is : (a : ℕ) (r : Reply) → Tr (ltb 16 (length ys)) → a ≡ asked_number (length ys) ro rd tmax
       → r ≡ refused_reply a → r ≡ list_reply ys ro rd tmax
   unfolding few judged list_number list_reply lowest_of
   many_is a r h e g =
       let m : few (length ys) ≡ false = lt-leb (length ys) 16 (ltb→lt 16 (length ys) h) in
-      rw (g, e, m, lower_none (asked_number (length ys) ro rd tmax)) (sym (refuses _ (asked-many m) _))
+      rw (g, e, m, lower_none (asked_number (length ys) ro rd tmax)) (sym (refuses _ (asked_many m) _))
 
-  few-is : (a m k : ℕ) (e : Emitted) (r : Reply) → Tr (not (ltb 16 (length ys)))
+  few_is : (a m k : ℕ) (e : Emitted) (r : Reply) → Tr (not (ltb 16 (length ys)))
       → a ≡ asked_number (length ys) ro rd tmax → m ≡ lowest_of light_number ys → k ≡ lower a m
       → e ≡ emitter_of ys ro rd tmax → r ≡ reply_of k (emitted_reply e) → r ≡ list_reply ys ro rd tmax
   unfolding few judged list_number list_reply
-  few-is a m k e r h ea em ek ee er =
+  few_is a m k e r h ea em ek ee er =
       let s : few (length ys) ≡ true = le-leb (length ys) 16 (nltb→le 16 (length ys) h) in
       rw (s, er, ek, ea, em, ee)
 
@@ -193,26 +193,26 @@ module _ {M : Type 1} {𝓤 : Ura M} (𝓛 : Logic 𝓤) (mem : Memory → SProp
         (tt, (tt, (tt, (tt, tt))))) $ says ! e $
         nothing ! $ move ! (1 ∷ 0 ∷ []) $ join ! $
         -- [the tokens; what lights owns]
-        ray-owned ! ro rd tmax go gd gt $
+        ray_owned ! ro rd tmax go gd gt $
         move ! (2 ∷ 0 ∷ []) $ fjoin ! $ move ! (1 ∷ 0 ∷ []) $ frame ! $ frame ! $
         owned ! R.the_row (Is R.the_row) (LL.makes R.the_type R'.the_plain 𝓛) r (v ∷ []) g $ done !
 
     -- ---- what each callee is handed
-    abbrev to-asked : (Asked 𝓛 mem run).Ghost
-    to-asked = ((tt, tt, tt, (n, (ro, (rd, (tmax, tt)))), (vint w64 n ∷ [], at.1)), tt)
+    abbrev to_asked : (Asked 𝓛 mem run).Ghost
+    to_asked = ((tt, tt, tt, (n, (ro, (rd, (tmax, tt)))), (vint w64 n ∷ [], at.1)), tt)
 
-    goes-asked : ent 𝓤 (emp 𝓤) ((Asked 𝓛 mem run).pre to-asked)
-    goes-asked =
-        qed 𝓛 [] ∵ ray-owned ! ro rd tmax go gd gt $
+    goes_asked : ent 𝓤 (emp 𝓤) ((Asked 𝓛 mem run).pre to_asked)
+    goes_asked =
+        qed 𝓛 [] ∵ ray_owned ! ro rd tmax go gd gt $
         owned ! usize (Is usize) (uint_Makes 𝓛 w64) n (vint w64 n ∷ []) (refl, gn.0) $ fjoin ! $
         nothing ! $ join ! $ frame ! $ done !
 
-    abbrev to-refused : ℕ → Val → (Refused 𝓛 mem run).Ghost
-    to-refused a va = ((tt, tt, tt, (a, tt), (va ∷ [], tt)), tt)
+    abbrev to_refused : ℕ → Val → (Refused 𝓛 mem run).Ghost
+    to_refused a va = ((tt, tt, tt, (a, tt), (va ∷ [], tt)), tt)
 
-    goes-refused : (a : ℕ) (va : Val) → Is u32 a (va ∷ [])
-        → ent 𝓤 (emp 𝓤) ((Refused 𝓛 mem run).pre (to-refused a va))
-    goes-refused a va ga =
+    goes_refused : (a : ℕ) (va : Val) → Is u32 a (va ∷ [])
+        → ent 𝓤 (emp 𝓤) ((Refused 𝓛 mem run).pre (to_refused a va))
+    goes_refused a va ga =
         qed 𝓛 [] ∵ nothing ! $ owned ! u32 (Is u32) (uint_Makes 𝓛 w32) a (va ∷ []) ga $ fjoin ! $
         nothing ! $ join ! $ frame ! $ done !
 
@@ -227,28 +227,28 @@ module _ {M : Type 1} {𝓤 : Ura M} (𝓛 : Logic 𝓤) (mem : Memory → SProp
     abbrev to_both : ℕ → Val → ℕ → Val → (Both 𝓛 mem run).Ghost
     to_both a va m vm = ((tt, tt, tt, (a, (m, tt)), (va ∷ [], (vm ∷ [], tt))), tt)
 
-    goes-both : (a : ℕ) (va : Val) (m : ℕ) (vm : Val) → Is u32 a (va ∷ []) → Is u32 m (vm ∷ [])
+    goes_both : (a : ℕ) (va : Val) (m : ℕ) (vm : Val) → Is u32 a (va ∷ []) → Is u32 m (vm ∷ [])
         → ent 𝓤 (emp 𝓤) ((Both 𝓛 mem run).pre (to_both a va m vm))
-    goes-both a va m vm ga gm =
+    goes_both a va m vm ga gm =
         qed 𝓛 [] ∵ nothing ! $ owned ! u32 (Is u32) (uint_Makes 𝓛 w32) m (vm ∷ []) gm $ fjoin ! $
         owned ! u32 (Is u32) (uint_Makes 𝓛 w32) a (va ∷ []) ga $ fjoin ! $
         nothing ! $ join ! $ frame ! $ done !
 
-    abbrev to-among : (Among 𝓛 mem run).Ghost
-    to-among = (((κ, tt), (q, tt), tt, (x, (ro, (rd, (tmax, tt)))), at), tt)
+    abbrev to_among : (Among 𝓛 mem run).Ghost
+    to_among = (((κ, tt), (q, tt), tt, (x, (ro, (rd, (tmax, tt)))), at), tt)
 
-    goes-among : ent 𝓤 (sep 𝓤 (sem 𝓛 Own) (A.lft κ q)) ((Among 𝓛 mem run).pre to-among)
-    goes-among =
+    goes_among : ent 𝓤 (sep 𝓤 (sem 𝓛 Own) (A.lft κ q)) ((Among 𝓛 mem run).pre to_among)
+    goes_among =
         qed 𝓛 (‵ Own ∷ ‵ (flft κ q) ∷ []) ∵
-        ray-owned ! ro rd tmax go gd gt $
+        ray_owned ! ro rd tmax go gd gt $
         move ! (1 ∷ 0 ∷ []) $ fjoin ! $ nothing ! $ move ! (2 ∷ 0 ∷ []) $ join ! $ join ! $ frame ! $ done !
 
-    abbrev to-answer : ℕ → Val → Emitted → Val → (Answer 𝓛 mem run).Ghost
-    to-answer k vk e ve = ((tt, tt, tt, (k, (e, tt)), (vk ∷ [], (ve ∷ [], tt))), tt)
+    abbrev to_answer : ℕ → Val → Emitted → Val → (Answer 𝓛 mem run).Ghost
+    to_answer k vk e ve = ((tt, tt, tt, (k, (e, tt)), (vk ∷ [], (ve ∷ [], tt))), tt)
 
-    goes-answer : (k : ℕ) (vk : Val) (e : Emitted) (ve : Val) → Is u32 k (vk ∷ []) → Is B.the_row e (ve ∷ [])
-        → ent 𝓤 (emp 𝓤) ((Answer 𝓛 mem run).pre (to-answer k vk e ve))
-    goes-answer k vk e ve gk ge =
+    goes_answer : (k : ℕ) (vk : Val) (e : Emitted) (ve : Val) → Is u32 k (vk ∷ []) → Is B.the_row e (ve ∷ [])
+        → ent 𝓤 (emp 𝓤) ((Answer 𝓛 mem run).pre (to_answer k vk e ve))
+    goes_answer k vk e ve gk ge =
         qed 𝓛 [] ∵ nothing ! $
         owned ! B.the_row (Is B.the_row) (EL.makes B.the_type B'.the_plain 𝓛) e (ve ∷ []) ge $ fjoin ! $
         owned ! u32 (Is u32) (uint_Makes 𝓛 w32) k (vk ∷ []) gk $ fjoin ! $
@@ -296,26 +296,26 @@ module _ {M : Type 1} {𝓤 : Ura M} (𝓛 : Logic 𝓤) (mem : Memory → SProp
           told 𝓛 number.ended to_number.0 ! tt vm (λ m. m ≡ lowest_of light_number ys) (λ m em im.
           use1 𝓛 (‵ (flft κ q) ⊛ ‵ ftrue) (id⊢ 𝓤 _) $ split ! $ move ! (1 ∷ []) $ drop ! $
           land ! (from ! (stop !)) (init ! 2 refl ((uint_Lawful 𝓛 w32).typed m _ im).0) $
-          use0 𝓛 (raw ((Both 𝓛 mem run).pre (to_both a va m vm))) (goes-both a va m vm ia im) $
+          use0 𝓛 (raw ((Both 𝓛 mem run).pre (to_both a va m vm))) (goes_both a va m vm ia im) $
           calls_at ! (fm_of 𝓤 H 𝓛.laws 𝓣) (Both 𝓛 mem run) known.both (to_both a va m vm)
           (and_then ! (load ! (from ! (stop !)) (look ! 11 refl))
           (and_then ! (load ! (from ! (stop !)) (look ! 3 refl)) (no_more !))) (λ vk.
           told 𝓛 both.ended (to_both a va m vm).0 ! tt vk (λ k. k ≡ lower a m) (λ k ek ik. drop ! $
           land ! (from ! (stop !)) (init ! 8 refl ((uint_Lawful 𝓛 w32).typed k _ ik).0) $
-          twice κ b o γ ys ! $ use2 𝓛 (raw ((Among 𝓛 mem run).pre to-among)) goes-among $
-          calls_at ! (fm_of 𝓤 H 𝓛.laws 𝓣) (Among 𝓛 mem run) known.among to-among
+          twice κ b o γ ys ! $ use2 𝓛 (raw ((Among 𝓛 mem run).pre to_among)) goes_among $
+          calls_at ! (fm_of 𝓤 H 𝓛.laws 𝓣) (Among 𝓛 mem run) known.among to_among
           (and_then ! (load ! (from ! (stop !)) (look ! 20 refl))
           (and_then ! (load ! (from ! (stop !)) (look ! 18 refl))
           (and_then ! (load ! (from ! (stop !)) (look ! 16 refl))
           (and_then ! (load ! (from ! (stop !)) (look ! 14 refl)) (no_more !))))) (λ ve.
-          told 𝓛 among.ended to-among.0 ! tt ve (λ e. e ≡ emitter_of ys ro rd tmax) (λ e ee ie.
+          told 𝓛 among.ended to_among.0 ! tt ve (λ e. e ≡ emitter_of ys ro rd tmax) (λ e ee ie.
           use1 𝓛 (‵ (flft κ q) ⊛ ‵ ftrue) (id⊢ 𝓤 _) $ split ! $ move ! (1 ∷ []) $ drop ! $
           land ! (from ! (stop !)) (init ! 6 refl ((EL.lawful B.the_type B'.the_laws 𝓛 tt).typed e _ ie).0) $
-          use0 𝓛 (raw ((Answer 𝓛 mem run).pre (to-answer k vk e ve))) (goes-answer k vk e ve ik ie) $
-          calls_at ! (fm_of 𝓤 H 𝓛.laws 𝓣) (Answer 𝓛 mem run) known.answer (to-answer k vk e ve)
+          use0 𝓛 (raw ((Answer 𝓛 mem run).pre (to_answer k vk e ve))) (goes_answer k vk e ve ik ie) $
+          calls_at ! (fm_of 𝓤 H 𝓛.laws 𝓣) (Answer 𝓛 mem run) known.answer (to_answer k vk e ve)
           (and_then ! (load ! (from ! (stop !)) (look ! 9 refl))
           (and_then ! (load ! (from ! (stop !)) (look ! 7 refl)) (no_more !))) (λ v.
-          told 𝓛 answer.ended (to-answer k vk e ve).0 ! tt v (λ r. r ≡ reply_of k (emitted_reply e))
+          told 𝓛 answer.ended (to_answer k vk e ve).0 ! tt v (λ r. r ≡ reply_of k (emitted_reply e))
           (λ r er ir. drop ! $
           land ! (from ! (stop !)) (init ! 22 refl ((LL.lawful R.the_type R'.the_laws 𝓛).typed r _ ir).0) $
           returns ! (look ! 22 refl) $ forget ! 2 refl $ forget ! 6 refl $ forget ! 8 refl $ forget ! 10 refl $
@@ -325,29 +325,29 @@ module _ {M : Type 1} {𝓤 : Ura M} (𝓛 : Logic 𝓤) (mem : Memory → SProp
           move ! (14 ∷ 15 ∷ []) $ free1 ! $ move ! (12 ∷ 13 ∷ []) $ free1 ! $
           move ! (10 ∷ 11 ∷ []) $ free1 ! $ move ! (8 ∷ 9 ∷ []) $ free1 ! $ move ! (6 ∷ 7 ∷ []) $ free1 ! $
           move ! (4 ∷ 5 ∷ []) $ free1 ! $ move ! (2 ∷ 3 ∷ []) $ free1 ! $ free0 ! $
-          by ! (exits r v ir (few-is ys ro rd tmax a m k e r least ea em ek ee er))))))))))
+          by ! (exits r v ir (few_is ys ro rd tmax a m k e r least ea em ek ee er))))))))))
 
       body
           : Sq 𝓛 (With (‵ (froom word l₅ 0)) (‵ (froom half l₆ 0))) (runs C Λ En steps.t-1 (at_ret En Post))
       body =
           assigns ! (of_opd ! (load ! (from ! (fld ! refl (stop !))) (look_in ! 20 (sub ! 1 refl (whole !)))))
           (from ! (stop !)) (init ! 12 refl (tt, record { fits = gn.0 })) $
-          use0 𝓛 (raw ((Asked 𝓛 mem run).pre to-asked)) goes-asked $
-          calls_at ! (fm_of 𝓤 H 𝓛.laws 𝓣) (Asked 𝓛 mem run) known.asked to-asked
+          use0 𝓛 (raw ((Asked 𝓛 mem run).pre to_asked)) goes_asked $
+          calls_at ! (fm_of 𝓤 H 𝓛.laws 𝓣) (Asked 𝓛 mem run) known.asked to_asked
           (and_then ! (load ! (from ! (stop !)) (look ! 13 refl))
           (and_then ! (load ! (from ! (stop !)) (look ! 19 refl))
           (and_then ! (load ! (from ! (stop !)) (look ! 17 refl))
           (and_then ! (load ! (from ! (stop !)) (look ! 15 refl)) (no_more !))))) (λ va.
-          told 𝓛 asked.ended to-asked.0 ! tt va (λ a. a ≡ asked_number n ro rd tmax) (λ a ea ia. drop ! $
+          told 𝓛 asked.ended to_asked.0 ! tt va (λ a. a ≡ asked_number n ro rd tmax) (λ a ea ia. drop ! $
           land ! (from ! (stop !)) (init ! 10 refl ((uint_Lawful 𝓛 w32).typed a _ ia).0) $
           assigns ! (bin ! (lit ! tt) (load ! (from ! (stop !)) (look ! 12 refl)) tt)
           (from ! (stop !)) (init ! 4 refl (tt, tt)) $
           first ! $ branches ! (load ! (from ! (stop !)) (look ! 4 refl))
           (λ many.
-          use0 𝓛 (raw ((Refused 𝓛 mem run).pre (to-refused a va))) (goes-refused a va ia) $
-          calls_at ! (fm_of 𝓤 H 𝓛.laws 𝓣) (Refused 𝓛 mem run) known.refused (to-refused a va)
+          use0 𝓛 (raw ((Refused 𝓛 mem run).pre (to_refused a va))) (goes_refused a va ia) $
+          calls_at ! (fm_of 𝓤 H 𝓛.laws 𝓣) (Refused 𝓛 mem run) known.refused (to_refused a va)
           (and_then ! (load ! (from ! (stop !)) (look ! 11 refl)) (no_more !)) (λ v.
-          told 𝓛 refused.ended (to-refused a va).0 ! tt v (λ r. r ≡ refused_reply a) (λ r er ir. drop ! $
+          told 𝓛 refused.ended (to_refused a va).0 ! tt v (λ r. r ≡ refused_reply a) (λ r er ir. drop ! $
           land ! (from ! (stop !)) (init ! 22 refl ((LL.lawful R.the_type R'.the_laws 𝓛).typed r _ ir).0) $
           returns_within ! Post refl (look ! 22 refl) $ forget ! 4 refl $ forget ! 10 refl $ forget ! 12 refl $
           forget ! 14 refl $ forget ! 16 refl $ forget ! 18 refl $ forget ! 20 refl $ forget ! 22 refl $
@@ -381,20 +381,20 @@ module _ {M : Type 1} {𝓤 : Ura M} (𝓛 : Logic 𝓤) (mem : Memory → SProp
     (run : Routine → Fun 𝓤) (𝓣 : Tables 𝓤 𝓛.H) (known : Known 𝓛 mem run 𝓣) where
   open 𝓛 use {H}
 
-  hit-walks : Walks 𝓛 f.ended aimed_stays (WpFn 𝓤 H 𝓣.C 𝓣.Λ code.function)
+  hit_walks : Walks 𝓛 f.ended aimed_stays (WpFn 𝓤 H 𝓣.C 𝓣.Λ code.function)
       (f.clauses 𝓛 mem run)
-  hit-walks =
+  hit_walks =
       walked 𝓛 f.ended aimed_stays (f.clauses 𝓛 mem run) (WpFn 𝓤 H 𝓣.C 𝓣.Λ code.function)
       aimed_vals aimed_tells
       (λ κs qs bounds a g are. via 𝓤 _ (fst∗ 𝓤 _ (emp 𝓤))
       (walk 𝓛 mem run κs.0 qs.0 a.0.ref_ptr.0 a.0.ref_ptr.1 a.0.ghost_name a.0.now a.1.0
       a.1.1.0 a.1.1.1.0 are.0.0.1 are.1.0 are.1.1.0 are.1.1.1.0 𝓣 known))
 
-  hit-meets : Meets 𝓛 f.signature (WpFn 𝓤 H 𝓣.C 𝓣.Λ code.function) (f.spec 𝓛 mem run)
-  hit-meets =
-      walk_Meets 𝓛 f.ended aimed_stays (aimed-goes 𝓛)
+  hit_meets : Meets 𝓛 f.signature (WpFn 𝓤 H 𝓣.C 𝓣.Λ code.function) (f.spec 𝓛 mem run)
+  hit_meets =
+      walk_Meets 𝓛 f.ended aimed_stays (aimed_goes 𝓛)
       (f.clauses 𝓛 mem run) (WpFn 𝓤 H 𝓣.C 𝓣.Λ code.function)
-      (WpFn-mono 𝓤 H 𝓛.laws 𝓣 code.function) hit-walks
+      (WpFn-mono 𝓤 H 𝓛.laws 𝓣 code.function) hit_walks
 
 pub emitter_hit_spec : {M : Type 1} → stated.statement M
 unfolding code.routine tables_of
@@ -402,7 +402,7 @@ emitter_hit_spec 𝓤 𝓛 𝓜 𝓡 =
     entered 𝓤 𝓛.H (triple_of 𝓛 f.signature (f.spec 𝓛 𝓜.mem 𝓡.run))
     (tables 𝓤 𝓛.H 𝓜 𝓡 code.env).C (tables 𝓤 𝓛.H 𝓜 𝓡 code.env).Λ #hit code.function
     (code.unfolded 𝓤 𝓛.H 𝓜 𝓡)
-    (hit-meets 𝓛 𝓜.mem 𝓡.run
+    (hit_meets 𝓛 𝓜.mem 𝓡.run
     (tables_of 𝓤 𝓛.H 𝓜 (tables 𝓤 𝓛.H 𝓜 𝓡 code.env))
     record {
       asked =

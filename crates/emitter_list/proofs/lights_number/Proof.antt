@@ -51,8 +51,8 @@ use Rattle.plan.specs.declared.QuadLight.{QuadLight}
 use Rattle.record_test.specs.Numbers.{light_number}
 use Rattle.plan.specs.contracts.QuadLight as T
 use Rattle.plan.proofs.QuadLight.TheLaws as T'
-use Rattle.emitter_list.proofs.Walking.{half, word, slice, tail, State, Nearer, nearer-wf, scaled, dark}
-use Rattle.emitter_list.proofs.Walking.{lent, Owned, light-out, light-back, told}
+use Rattle.emitter_list.proofs.Walking.{half, word, slice, tail, State, Nearer, nearer_wf, scaled, dark}
+use Rattle.emitter_list.proofs.Walking.{lent, Owned, light_out, light_back, told}
 use Rattle.emitter_list.specs.contracts.number_step as one'
 use Rattle.emitter_list.proofs.number_step.Symbol as one_def
 use Rattle.emitter_list.proofs.number_step.Symbol.{name as #one}
@@ -189,15 +189,15 @@ module _ {M : Type 1} {𝓤 : Ura M} (𝓛 : Logic 𝓤) (mem : Memory → SProp
           (from ! (stop !)) (init ! 6 refl (tt, tt)) $
           first ! $ branches ! (load ! (from ! (stop !)) (look ! 6 refl))
           (λ less. skips ! $ exec ! C Λ En more (any_q (Turned t)) $
-          assigns ! (bin ! (load ! (from ! (stop !)) (look ! 12 refl)) (lit ! tt) (record { fits = place-fits less }))
-          (from ! (stop !)) (store ! 8 refl (tt, record { fits = place-fits less })) $
+          assigns ! (bin ! (load ! (from ! (stop !)) (look ! 12 refl)) (lit ! tt) (record { fits = place_fits less }))
+          (from ! (stop !)) (store ! 8 refl (tt, record { fits = place_fits less })) $
           assigns ! (bin ! (load ! (from ! (fld ! refl (stop !))) (look_in ! 16 (sub ! 0 refl (whole !))))
           (load ! (from ! (stop !)) (look ! 8 refl)) tt) (from ! (stop !)) (init ! 4 refl (tt, tt)) $
           rewrite ! 4 (λ (p : ℕ). ‵ (fat full_share ty_ptr l₇ 0 (vptr b p))) (sym (place_is 60 o t.i)) refl $
-          light-out κ b o γ ys ! tt t.i (below less) (λ q' g.
+          light_out κ b o γ ys ! tt t.i (below less) (λ q' g.
           assigns ! (of_opd ! (load ! (from ! (hop ! (look ! 8 refl) (stop !))) (look_raw ! 0 refl))) (from ! (stop !))
           (init ! 6 refl ((LL.lawful T.the_type T'.the_laws 𝓛).typed elem _ g).0) $
-          light-back κ b o γ ys ! tt q' t.i (below less) $
+          light_back κ b o γ ys ! tt q' t.i (below less) $
           assigns ! (of_opd ! (load ! (from ! (stop !)) (look ! 2 refl))) (from ! (stop !))
           (init ! 10 refl ((LL.lawful T.the_type T'.the_laws 𝓛).typed elem _ g).0) $
           use0 𝓛 (raw ((One 𝓛 mem run).pre (to_one t.r t.v elem velem)))
@@ -222,7 +222,7 @@ module _ {M : Type 1} {𝓤 : Ura M} (𝓛 : Logic 𝓤) (mem : Memory → SProp
           move ! (14 ∷ 15 ∷ []) $ free1 ! $ move ! (12 ∷ 13 ∷ []) $ free1 ! $
           move ! (10 ∷ 11 ∷ []) $ free1 ! $ move ! (8 ∷ 9 ∷ []) $ free1 ! $ move ! (6 ∷ 7 ∷ []) $ free1 ! $
           move ! (4 ∷ 5 ∷ []) $ free1 ! $ move ! (2 ∷ 3 ∷ []) $ free1 ! $ free0 ! $
-          by ! (exits t.r t.v t.is (over-is over)))
+          by ! (exits t.r t.v t.is (over_is over)))
         where
           elem : QuadLight
           elem = get_or ys t.i dark
@@ -233,8 +233,8 @@ module _ {M : Type 1} {𝓤 : Ura M} (𝓛 : Logic 𝓤) (mem : Memory → SProp
           below : Tr (ltb t.i n) → t.i < n
           below less = ltb→lt t.i n less
 
-          place-fits : Tr (ltb t.i n) → t.i * 60 < 2 ^ 64
-          place-fits less = scaled n t.i gn (below less)
+          place_fits : Tr (ltb t.i n) → t.i * 60 < 2 ^ 64
+          place_fits less = scaled n t.i gn (below less)
 
           next_fits : Tr (ltb t.i n) → t.i + 1 < 2 ^ 64
           next_fits less = lt_of_le_of_lt (add-one-le (below less)) gn.0
@@ -250,8 +250,8 @@ module _ {M : Type 1} {𝓤 : Ura M} (𝓛 : Logic 𝓤) (mem : Memory → SProp
             keeps = rw e (sym (from_step t.r ys t.i (below less)) ∙ t.keeps);
           }
 
-          over-is : Tr (not (ltb t.i n)) → t.r ≡ lowest_of light_number ys
-          over-is over =
+          over_is : Tr (not (ltb t.i n)) → t.r ≡ lowest_of light_number ys
+          over_is over =
               let e : t.i ≡ n = le_antisymm t.small (nltb→le t.i n over) in
               sym (from_end t.r ys)
               ∙ ap (λ (k : ℕ). lower t.r (lowest_of light_number (drop_l k ys))) (sym e) ∙ t.keeps
@@ -267,8 +267,8 @@ module _ {M : Type 1} {𝓤 : Ura M} (𝓛 : Logic 𝓤) (mem : Memory → SProp
         keeps = from_start ys;
       }
 
-      loop-runs : Sq 𝓛 (At begins) (runs C Λ En steps.t-3 (at_ret En Post))
-      loop-runs = first ! $ blocks ! $ loops ! 𝓣 Near (nearer-wf u32 n Keeps) At turns begins
+      loop_runs : Sq 𝓛 (At begins) (runs C Λ En steps.t-3 (at_ret En Post))
+      loop_runs = first ! $ blocks ! $ loops ! 𝓣 Near (nearer_wf u32 n Keeps) At turns begins
 
       -- before the body's first statement
       abbrev Passed : List (Item 𝓤)
@@ -277,7 +277,7 @@ module _ {M : Type 1} {𝓤 : Ura M} (𝓛 : Logic 𝓤) (mem : Memory → SProp
       body : Sq 𝓛 Passed (runs C Λ En steps.t-1 (at_ret En Post))
       body =
           assigns ! (of_opd ! (lit ! tt)) (from ! (stop !)) (init ! 14 refl (tt, record { fits = lit< tt })) $
-          assigns ! (of_opd ! (lit ! tt)) (from ! (stop !)) (init ! 12 refl (tt, record { fits = lit< tt })) $ loop-runs
+          assigns ! (of_opd ! (lit ! tt)) (from ! (stop !)) (init ! 12 refl (tt, record { fits = lit< tt })) $ loop_runs
 
     walk : (𝓣 : Tables 𝓤 H) → Triple 𝓤 (𝓣.C #one) (One 𝓛 mem run)
         → ent 𝓤 (on_entry 𝓛 f.signature (κ, tt) (q, tt) (x, tt) at)
@@ -298,21 +298,21 @@ module _ {M : Type 1} {𝓤 : Ura M} (𝓛 : Logic 𝓤) (mem : Memory → SProp
     (known : Triple 𝓤 (𝓣.C #one) (One 𝓛 mem run)) where
   open 𝓛 use {H}
 
-  number-walks : Walks 𝓛 f.ended stayed (WpFn 𝓤 H 𝓣.C 𝓣.Λ code.function)
+  number_walks : Walks 𝓛 f.ended stayed (WpFn 𝓤 H 𝓣.C 𝓣.Λ code.function)
       (f.clauses 𝓛 mem run)
-  number-walks =
+  number_walks =
       walked 𝓛 f.ended stayed (f.clauses 𝓛 mem run) (WpFn 𝓤 H 𝓣.C 𝓣.Λ code.function)
       (λ κs. (shr_slice_vals, tt)) (λ κs. (shr_slice_Tells (named 0) κs.0 T.the_row, tt))
       (λ κs qs bounds a g are. via 𝓤 _ (fst∗ 𝓤 _ (emp 𝓤))
       (walk 𝓛 mem run κs.0 qs.0 a.0.ref_ptr.0 a.0.ref_ptr.1 0 a.0.now are.0.0.1
       𝓣 known))
 
-  number-meets : Meets 𝓛 f.signature (WpFn 𝓤 H 𝓣.C 𝓣.Λ code.function) (f.spec 𝓛 mem run)
-  number-meets =
+  number_meets : Meets 𝓛 f.signature (WpFn 𝓤 H 𝓣.C 𝓣.Λ code.function) (f.spec 𝓛 mem run)
+  number_meets =
       walk_Meets 𝓛 f.ended stayed
       (Goes-none_slice 𝓛 1 (0 ∷ []) tt (plain (λ _. T.the_row)) yes, tt)
       (f.clauses 𝓛 mem run) (WpFn 𝓤 H 𝓣.C 𝓣.Λ code.function)
-      (WpFn-mono 𝓤 H 𝓛.laws 𝓣 code.function) number-walks
+      (WpFn-mono 𝓤 H 𝓛.laws 𝓣 code.function) number_walks
 
 pub lights_number_spec : {M : Type 1} → stated.statement M
 unfolding code.routine tables_of
@@ -320,7 +320,7 @@ lights_number_spec 𝓤 𝓛 𝓜 𝓡 =
     entered 𝓤 𝓛.H (triple_of 𝓛 f.signature (f.spec 𝓛 𝓜.mem 𝓡.run))
     (tables 𝓤 𝓛.H 𝓜 𝓡 code.env).C (tables 𝓤 𝓛.H 𝓜 𝓡 code.env).Λ #number code.function
     (code.unfolded 𝓤 𝓛.H 𝓜 𝓡)
-    (number-meets 𝓛 𝓜.mem 𝓡.run
+    (number_meets 𝓛 𝓜.mem 𝓡.run
     (tables_of 𝓤 𝓛.H 𝓜 (tables 𝓤 𝓛.H 𝓜 𝓡 code.env))
     (cited 𝓤 𝓛.H (One 𝓛 𝓜.mem 𝓡.run) 𝓜 𝓡 code.env #one one_def.routine
     code.calls-emitter-list::number-step (one-thm.met 𝓤 𝓛 𝓜 𝓡)))

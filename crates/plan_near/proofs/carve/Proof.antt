@@ -10,8 +10,8 @@ use lib.Ieee.{le}
 use Rattle.float_order.proofs.Order.{yes_of}
 use Rattle.plan.specs.Plan.{cuts_by}
 use Rattle.plan.specs.Nearest.{carve}
-use Rattle.plan.proofs.Lists.{carve-none, carve-more}
-use Rattle.plan_near.proofs.Near.{carve-stops}
+use Rattle.plan.proofs.Lists.{carve_none, carve_more}
+use Rattle.plan_near.proofs.Near.{carve_stops}
 use borrow.Author.Rules.{rules}
 use Rattle.plan_near.proofs.carve.Statement.{statement}
 use Rattle.plan_near.proofs.carve.Tie as tie
@@ -23,7 +23,7 @@ abbrev decreases-loop : tie.decreases-loop
 decreases-loop ws fs place n p d best left₀ j₀ left j = n - j
 
 loop-holds : tie.Need-loop-init invariant-loop decreases-loop
-loop-holds c = let a = c.args in (search rules, carve-none a.ws.now a.fs.now (369 + a.place) a.p a.d)
+loop-holds c = let a = c.args in (search rules, carve_none a.ws.now a.fs.now (369 + a.place) a.p a.d)
 
 returns : tie.Need-returns invariant-loop decreases-loop
 returns c =
@@ -31,17 +31,17 @@ returns c =
     let a = l.before.args in
     let now : T (le a.best (carve (cuts_by a.ws.now a.fs.now (369 + a.place) (l.loop.j + 1)) a.p
     a.d))
-    = rw (carve-more, sym l.loop.invariant.1, sym c.before.cut.ensures) (yes_of c.if1.true) in
+    = rw (carve_more, sym l.loop.invariant.1, sym c.before.cut.ensures) (yes_of c.if1.true) in
     inr (
       refl,
-      carve-stops a.ws.now a.fs.now (369 + a.place) a.p a.best a.d (l.loop.j + 1) a.n
+      carve_stops a.ws.now a.fs.now (369 + a.place) a.p a.best a.d (l.loop.j + 1) a.n
           (omega arith) now,
     )
 
 loop-again : tie.Need-loop-preserved invariant-loop decreases-loop
 loop-again c = (
   omega arith,
-  rw (carve-more, c.before.cut.ensures)
+  rw (carve_more, c.before.cut.ensures)
       (rw c.before.before.before.loop.invariant.1),
 )
 

@@ -2,7 +2,7 @@
 -- Assumes nothing.
 use mathlib.Core.Path.{sym, ◌∙◌}
 use native.Mathlib.Omega.{arith}
-use Rattle.plan_near.proofs.Rows.{cut_row, cutter-none}
+use Rattle.plan_near.proofs.Rows.{cut_row, cutter_none}
 use borrow.Author.Rules.{rules}
 use Rattle.plan_near.proofs.cut.Statement.{statement}
 use Rattle.plan_near.proofs.cut.Tie as tie
@@ -20,7 +20,7 @@ returns-2 : tie.Need-returns-2
 returns-2 c =
     let test = c.before.before in
     let a = test.before.args in
-    sym (cutter-none a.ws.now a.fs.now c.before.-words.given.0 c.-floats.given.0
+    sym (cutter_none a.ws.now a.fs.now c.before.-words.given.0 c.-floats.given.0
     a.r test.if1.false a.p a.left)
 
 pub cut_spec : {M : Type 1} → statement M

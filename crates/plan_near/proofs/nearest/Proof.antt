@@ -6,7 +6,7 @@ use native.Mathlib.Omega.{arith}
 use Rattle.vec.specs.declared.Vec3.{Vec3}
 use Rattle.plan.specs.Plan.{pieces_from}
 use Rattle.plan.specs.Nearest.{nearest}
-use Rattle.plan.proofs.Lists.{nearest-none, nearest-more}
+use Rattle.plan.proofs.Lists.{nearest_none, nearest_more}
 use Rattle.plan_near.proofs.nearest.Statement.{statement}
 use Rattle.plan_near.proofs.nearest.Tie as tie
 
@@ -21,12 +21,12 @@ loop-holds : tie.Need-loop-init invariant-loop decreases-loop
 loop-holds c =
     let a = c.args in
     let p : Vec3 = record { x = a.x; y = a.y; z = a.z } in
-    (search rules, nearest-none a.ws.now a.fs.now a.r p a.best)
+    (search rules, nearest_none a.ws.now a.fs.now a.r p a.best)
 
 loop-again : tie.Need-loop-preserved invariant-loop decreases-loop
 loop-again c = (
   omega arith,
-  rw (nearest-more, c.plane-nearer.ensures)
+  rw (nearest_more, c.plane-nearer.ensures)
       (rw c.before.before.loop.invariant.1),
 )
 

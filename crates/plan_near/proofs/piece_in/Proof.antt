@@ -3,7 +3,7 @@
 use mathlib.Core.Path.{refl}
 use mathlib.Core.Logic.{inr}
 use native.Mathlib.Omega.{arith}
-use Rattle.plan_near.proofs.Rows.{row-passed, row-carved}
+use Rattle.plan_near.proofs.Rows.{row_passed, row_carved}
 use borrow.Author.Rules.{rules}
 use Rattle.plan_near.proofs.piece_in.Statement.{statement}
 use Rattle.plan_near.proofs.piece_in.Tie as tie
@@ -13,7 +13,7 @@ returns c = let d = c.before in
     let a = d.before.before.before.args in
     λ k. inr (
       refl,
-      row-passed a.ws.now a.fs.now a.r (record { x = a.x; y = a.y; z = a.z }) a.t
+      row_passed a.ws.now a.fs.now a.r (record { x = a.x; y = a.y; z = a.z }) a.t
           d.dist-in.result (d.dist-in.ensures (omega (arith, k))) c.if2.true,
     )
 
@@ -21,7 +21,7 @@ returns-2 : tie.Need-returns-2
 returns-2 c = let e = c.before.before.before in
     let d = e.before in
     let a = d.before.before.before.args in
-    λ k. row-carved a.ws.now a.fs.now a.r (record { x = a.x; y = a.y; z = a.z }) a.t
+    λ k. row_carved a.ws.now a.fs.now a.r (record { x = a.x; y = a.y; z = a.z }) a.t
     d.dist-in.result (d.dist-in.ensures (omega (arith, k))) e.if2.false c.carve.result c.carve.ensures
 
 returns-3 : tie.Need-returns-3

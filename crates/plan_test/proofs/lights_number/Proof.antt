@@ -6,7 +6,7 @@ use native.Mathlib.Nat.{zero-add}
 use native.Mathlib.Omega.{arith}
 use Rattle.words.specs.Lists.{list_from}
 use Rattle.refusals.specs.Refusals.{lowest_of}
-use Rattle.refusals.proofs.Lowest.{lowest_start, lowest-more}
+use Rattle.refusals.proofs.Lowest.{lowest_start, lowest_more}
 use Rattle.plan.specs.Records.{light_in}
 use Rattle.record_test.specs.Numbers.{light_number}
 use Rattle.plan_test.proofs.lights_number.Statement.{statement}
@@ -26,7 +26,7 @@ loop-again c =
     let a = c.before.before in
     let l = a.before.before in (
       omega arith,
-      rw (lowest-more, zero-add, c.lower.ensures, c.before.light-number.ensures, a.light-in.ensures)
+      rw (lowest_more, zero-add, c.lower.ensures, c.before.light-number.ensures, a.light-in.ensures)
           (rw l.loop.invariant.1),
     )
 

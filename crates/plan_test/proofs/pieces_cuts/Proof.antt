@@ -5,7 +5,7 @@ use mathlib.Core.Path.{◌≡◌, sym}
 use native.Mathlib.Omega.{arith}
 use Rattle.words.specs.Lists.{list_from}
 use Rattle.refusals.specs.Refusals.{lowest_of}
-use Rattle.refusals.proofs.Lowest.{lowest_start, lowest-more}
+use Rattle.refusals.proofs.Lowest.{lowest_start, lowest_more}
 use Rattle.plan.specs.Plan.{piece_at, pieces_from}
 use Rattle.record_test.specs.Numbers.{piece_cuts}
 use Rattle.plan_test.proofs.pieces_cuts.Statement.{statement}
@@ -23,7 +23,7 @@ loop-holds c = let a = c.args in (search rules, lowest_start piece_cuts (piece_a
 loop-again : tie.Need-loop-preserved invariant-loop decreases-loop
 loop-again c =
     let l = c.before.before.before in
-    (omega arith, rw (lowest-more, c.lower.ensures, c.before.piece-cuts.ensures, l.loop.invariant.1))
+    (omega arith, rw (lowest_more, c.lower.ensures, c.before.piece-cuts.ensures, l.loop.invariant.1))
 
 returns : tie.Need-returns invariant-loop decreases-loop
 unfolding pieces_from

@@ -10,8 +10,8 @@ use Rattle.plan.specs.Records.{head_at}
 use Rattle.plan.specs.Plan.{pieces_from, count_of}
 use Rattle.record_test.specs.Numbers.{piece_own}
 use Rattle.plan_test.specs.Tests.{cutters_of, place_ok, places_ok, tally_of}
-use Rattle.plan_test.proofs.Lists.{own-start, own-more, used_start, used-more, placed-start}
-use Rattle.plan_test.proofs.Lists.{placed-more, sum_words, sum_fits}
+use Rattle.plan_test.proofs.Lists.{own_start, own_more, used_start, used_more, placed_start}
+use Rattle.plan_test.proofs.Lists.{placed_more, sum_words, sum_fits}
 use Rattle.plan_test.proofs.tally_rows.Statement.{statement}
 use Rattle.plan_test.proofs.tally_rows.Tie as tie
 
@@ -32,8 +32,8 @@ loop-holds c =
     let f = a.fs.now in (
       search rules,
       search rules,
-      own-start w f a.r a.planes (count_of sections.materials w),
-      placed-start w f a.r a.planes,
+      own_start w f a.r a.planes (count_of sections.materials w),
+      placed_start w f a.r a.planes,
       used_start w f a.r,
       search rules,
     )
@@ -50,10 +50,10 @@ loop-again c =
     let l = b5.before.before in (
       search rules,
       omega arith,
-      rw (own-more, b2.lower.ensures, b2.before.own_at.ensures, l.loop.invariant.2),
-      rw (placed-more, c.both.ensures, c.before.Place-ok.ensures)
+      rw (own_more, b2.lower.ensures, b2.before.own_at.ensures, l.loop.invariant.2),
+      rw (placed_more, c.both.ensures, c.before.Place-ok.ensures)
           (rw (b4.word-after2.ensures, b5.word_after.ensures, l.loop.invariant.3, l.loop.invariant.4)),
-      rw (used-more, b5.word_after.ensures, l.loop.invariant.4),
+      rw (used_more, b5.word_after.ensures, l.loop.invariant.4),
       sum_words l.loop.used _ l.loop.j (search rules) (search rules),
     )
 

@@ -4,7 +4,7 @@ use Prim.Native.Nat.{◌≤◌, ◌-◌}
 use mathlib.Core.Path.{◌≡◌, sym}
 use native.Mathlib.Omega.{arith}
 use Rattle.plan_write.specs.Written.{put_cutters}
-use Rattle.plan_write.proofs.Lists.{put-none, put-more}
+use Rattle.plan_write.proofs.Lists.{put_none, put_more}
 use Rattle.plan_write.proofs.put_cutters.Statement.{statement}
 use Rattle.plan_write.proofs.put_cutters.Tie as tie
 
@@ -15,12 +15,12 @@ abbrev decreases-loop : tie.decreases-loop
 decreases-loop ws₀ place n j₀ ws j = n - j
 
 loop-holds : tie.Need-loop-init invariant-loop decreases-loop
-loop-holds c = let a = c.args in (search rules, put-none a.ws.now a.place)
+loop-holds c = let a = c.args in (search rules, put_none a.ws.now a.place)
 
 loop-again : tie.Need-loop-preserved invariant-loop decreases-loop
 loop-again c =
     let l = c.before.before.before.before.before.before.loop in
-    (omega arith, rw (put-more, c.put-row.ensures, c.before.before.before.cutter-words.ensures, l.invariant.1))
+    (omega arith, rw (put_more, c.put-row.ensures, c.before.before.before.cutter-words.ensures, l.invariant.1))
 
 returns : tie.Need-returns invariant-loop decreases-loop
 returns c =

@@ -26,12 +26,12 @@ use Rattle.promises.specs.Bytes.{FullPlan, FullTree}
 use Rattle.promises.specs.Demand1.{Lent, MaterialTaken, LightTaken, PieceTaken, Enters, entering, Replied}
 use Rattle.promises.specs.Demand1.{Dropped}
 use Rattle.promises.proofs.Cases.{cond_some}
-use Rattle.promises.proofs.Replies.{sent-number, sent_word, sent-refusal}
+use Rattle.promises.proofs.Replies.{sent_number, sent_word, sent_refusal}
 use Rattle.promises.proofs.Lengths.{lent_exact, lent_tree_exact}
-use Rattle.promises.proofs.Tables.{plan-length}
+use Rattle.promises.proofs.Tables.{plan_length}
 use Rattle.promises.proofs.Demand1.Writes.{WritesPlan, stored_table, piece_writes, material_writes}
 use Rattle.promises.proofs.Demand1.Writes.{light_writes}
-use Rattle.promises.proofs.Demand1.Taken.{material-taken, light-taken, piece-taken}
+use Rattle.promises.proofs.Demand1.Taken.{material_taken, light_taken, piece_taken}
 
 -- an entry, as tables have it: its number, what it leaves, the lengths and the record that it takes, and the plan then
 pub record Entry (number need : ℕ) (plan args left : List ℕ) (L Taken : Type 0) (after : Plan) : Type 0 where
@@ -44,23 +44,23 @@ pub record Entry (number need : ℕ) (plan args left : List ℕ) (L Taken : Type
 module _ {number index need : ℕ} {plan args left out : List ℕ} {n : ℕ} {plan' out' : List ℕ}
     {L Taken : Type 0} {after : Plan} (e : Entry number need plan args left L Taken after)
     (s : EntrySent number index left plan out n plan' out') where
-  pub plan-kept : 0 < number → plan' ≡ plan
-  plan-kept h = s.plan_is ∙ cond_some number (with_words plan (take plan_words left)) plan h
+  pub plan_kept : 0 < number → plan' ≡ plan
+  plan_kept h = s.plan_is ∙ cond_some number (with_words plan (take plan_words left)) plan h
 
-  pub plan-loaded : number ≡ 0 → plan_table need plan' args ≡ left
-  plan-loaded z =
+  pub plan_loaded : number ≡ 0 → plan_table need plan' args ≡ left
+  plan_loaded z =
       let stores : plan' ≡ with_words plan (take plan_words left)
       = s.plan_is ∙ ap (λ (m : ℕ). cond (eqb m 0) (with_words plan (take plan_words left)) plan) z in
       ap (λ (b : List ℕ). plan_table need b args) stores
       ∙ stored_table need plan args left (e.full (e.exactly.0 z).0) e.writes
 
-  pub entry-enters : Enters (L × Taken) need plan args n plan' after
-  entry-enters =
-      let i = sent-number _ _ s.sent in
+  pub entry_enters : Enters (L × Taken) need plan args n plan' after
+  entry_enters =
+      let i = sent_number _ _ s.sent in
       record {
         exactly = (λ z. e.exactly.0 (sym i ∙ z), λ t. i ∙ e.exactly.1 t);
-        entered = λ z. ap plan_in (plan-loaded (sym i ∙ z)) ∙ e.entered (sym i ∙ z);
-        kept = λ h. plan-kept (subst (λ (m : ℕ). 0 < m) i h);
+        entered = λ z. ap plan_in (plan_loaded (sym i ∙ z)) ∙ e.entered (sym i ∙ z);
+        kept = λ h. plan_kept (subst (λ (m : ℕ). 0 < m) i h);
       }
 
 -- ---- the answer, and the tree
@@ -71,8 +71,8 @@ pub entry_answers
     → Replied k out n out'
 entry_answers s c =
     record {
-      done = λ z. sent_word _ _ s.sent (sym (sent-number _ _ s.sent) ∙ z) (sym c);
-      refused = sent-refusal _ _ s.sent;
+      done = λ z. sent_word _ _ s.sent (sym (sent_number _ _ s.sent) ∙ z) (sym c);
+      refused = sent_refusal _ _ s.sent;
     }
 
 pub tree_drops
@@ -89,71 +89,71 @@ none_before : (◌≡◌ {A = ℕ} 0 0) ↔ Unit {0}
 none_before = (λ _. tt, λ _. refl)
 
 module _ (plan args out : List ℕ) where
-  pub material-entry
+  pub material_entry_lem
       : let w = plan_table 20 plan args in
       Entry (material_entry (plan_before (length plan) 20 (length args) (length out)) w (seen w)) 20 plan args
       (with_material_words w) (Lent 20 plan args out) (MaterialTaken w)
       (with_material (plan_in w) (material_at (seen w) args_row))
-  material-entry =
+  material_entry_lem =
       let w : List ℕ = plan_table 20 plan args in
       let before : ℕ = plan_before (length plan) 20 (length args) (length out) in
       record {
-        exactly = material-taken before (Lent 20 plan args out) (lent_exact 20 plan args out) w;
+        exactly = material_taken before (Lent 20 plan args out) (lent_exact 20 plan args out) w;
         full = λ l. l.plan_full;
         writes = material_writes w;
-        entered = material_entered before w (plan-length 20 plan args);
-        makes = λ m t. made.material w m ((material-taken 0 Unit none_before w).1 (tt, t));
+        entered = material_entered before w (plan_length 20 plan args);
+        makes = λ m t. made.material w m ((material_taken 0 Unit none_before w).1 (tt, t));
       }
 
-  pub light-entry
+  pub light_entry_lem
       : let w = plan_table 60 plan args in
       Entry (light_entry (plan_before (length plan) 60 (length args) (length out)) w (seen w)) 60 plan args
       (with_light_words w) (Lent 60 plan args out) (LightTaken w)
       (with_light (plan_in w) (light_at (seen w) args_row))
-  light-entry =
+  light_entry_lem =
       let w : List ℕ = plan_table 60 plan args in
       let before : ℕ = plan_before (length plan) 60 (length args) (length out) in
       record {
-        exactly = light-taken before (Lent 60 plan args out) (lent_exact 60 plan args out) w;
+        exactly = light_taken before (Lent 60 plan args out) (lent_exact 60 plan args out) w;
         full = λ l. l.plan_full;
         writes = light_writes w;
-        entered = light_entered before w (plan-length 60 plan args);
-        makes = λ m t. made.light w m ((light-taken 0 Unit none_before w).1 (tt, t));
+        entered = light_entered before w (plan_length 60 plan args);
+        makes = λ m t. made.light w m ((light_taken 0 Unit none_before w).1 (tt, t));
       }
 
-  piece-entry
+  piece_entry_lem
       : (among : Bool) (before : ℕ) (L : Type 0)
       → (before ≡ 0) ↔ L
       → (L → FullPlan plan)
       → let w = plan_table 64 plan args in
       Entry (piece_entry before among w (seen w) (length args)) 64 plan args (piece_left among w (seen w)) L
       (PieceTaken among (length args) w) (with_one among (plan_in w) (entering among w))
-  piece-entry among before L p full =
+  piece_entry_lem among before L p full =
       let w : List ℕ = plan_table 64 plan args in
       let bytes : ℕ = length args in
       record {
-        exactly = piece-taken before L p among bytes w;
+        exactly = piece_taken before L p among bytes w;
         full = full;
         writes = piece_writes among w (new_place among (solids_of (plan_in w)) (arg_cuts w));
-        entered = piece_entered before among w bytes (plan-length 64 plan args);
-        makes = λ m t. made.piece among bytes w m ((piece-taken 0 Unit none_before among bytes w).1 (tt, t));
+        entered = piece_entered before among w bytes (plan_length 64 plan args);
+        makes = λ m t. made.piece among bytes w m ((piece_taken 0 Unit none_before among bytes w).1 (tt, t));
       }
 
-  pub plane-entry
+  pub plane_entry
       : let w = plan_table 64 plan args in
       Entry (piece_entry (plan_before (length plan) 64 (length args) (length out)) true w (seen w) (length args)) 64 plan
       args (piece_left true w (seen w)) (Lent 64 plan args out)
       (PieceTaken true (length args) w) (with_one true (plan_in w) (entering true w))
-  plane-entry =
-      piece-entry true (plan_before (length plan) 64 (length args) (length out)) (Lent 64 plan args out)
+  plane_entry =
+      piece_entry_lem true (plan_before (length plan) 64 (length args) (length out)) (Lent 64 plan args out)
       (lent_exact 64 plan args out) (λ l. l.plan_full)
 
-  pub object-entry
+  pub object_entry
       : (nodes order : List ℕ)
       → let w = plan_table 64 plan args in
       Entry (piece_entry (object_before plan nodes order args out) false w (seen w) (length args)) 64 plan args
       (piece_left false w (seen w)) (Lent 64 plan args out × FullTree nodes order)
       (PieceTaken false (length args) w) (with_one false (plan_in w) (entering false w))
-  object-entry nodes order =
-      piece-entry false (object_before plan nodes order args out) (Lent 64 plan args out × FullTree nodes order)
+  object_entry nodes order =
+      piece_entry_lem false (object_before plan nodes order args out) (Lent 64 plan args out × FullTree nodes order)
       (lent_tree_exact 64 plan nodes order args out) (λ l. l.0.plan_full)

@@ -12,7 +12,7 @@ use lib.Ieee.{Float, binary32, of_bits}
 use Rattle.sdf.specs.declared.Shape.{Shape}
 use Rattle.words.specs.Lists.{list_from}
 use Rattle.words.specs.Words.{word_at, with_words}
-use Rattle.words.proofs.Runs.{length_from, from-same, getD-from}
+use Rattle.words.proofs.Runs.{length_from, from_same, get_d_from}
 use Rattle.words.proofs.Laws.{length_puts}
 use Rattle.refusals.specs.Prims.{shape_of}
 use Rattle.plan.specs.declared.Cutter.{Cutter}
@@ -22,7 +22,7 @@ use Rattle.plan.specs.Records.{word_of, float_of, prim_of, cutter_at, head_at}
 use Rattle.plan.specs.Plan.{Piece, cuts_by, piece_at, seen}
 use Rattle.plan.proofs.Rows.{float_of_lem}
 use Rattle.wire.specs.Lent.{plan_table}
-use Rattle.promises.proofs.Tables.{stored-word, lent_full, args-word}
+use Rattle.promises.proofs.Tables.{stored_word, lent_full, args_word}
 
 -- ---- bytes whose words are g 0, g 1, ..: so many as a call's table has of its arguments
 unfoldable pub bytes_of : (ℕ → ℕ) → List ℕ
@@ -36,9 +36,9 @@ bytes_word : (g : ℕ → ℕ) (i : ℕ) → i < args_words → word_at (bytes_o
 unfolding bytes_of
 bytes_word g i h =
     let z : 0 + i ≡ i = omega arith in
-    stored-word (replicate 576 0) (list_from g 0 args_words) args_words (length_from g 0 args_words)
+    stored_word (replicate 576 0) (list_from g 0 args_words) args_words (length_from g 0 args_words)
     (omega (arith, length-replicate {A = ℕ} 576 0)) i h
-    ∙ getD-from g 0 args_words i 0 h
+    ∙ get_d_from g 0 args_words i 0 h
     ∙ ap g z
 
 pub given_word
@@ -47,7 +47,7 @@ pub given_word
     → i < args_words
     → word_of (plan_table need plan (bytes_of g)) (plan_words + i) ≡ g i
 given_word need plan g i h p =
-    args-word need plan (bytes_of g) i p
+    args_word need plan (bytes_of g) i p
     ∙ ap (λ (t : List ℕ). word_at t i) (lent_full (bytes_of g) need (omega (arith, length_bytes g)))
     ∙ bytes_word g i p
 
@@ -106,13 +106,13 @@ module _ (w : List ℕ) (r : ℕ) (g : ℕ → ℕ) (h : r < 1706) where
   abbrev first : ((k : ℕ) → k < 9 → word_of w (16 * r + k) ≡ g k) → word_of w (16 * r) ≡ g 0
   first e = ap (word_of w) (sym (add-zero (16 * r))) ∙ e 0 (omega arith)
 
-  cutter-by : ((k : ℕ) → k < 9 → word_of w (16 * r + k) ≡ g k) → cutter_at w (seen w) r ≡ cutter_by g
+  cutter_by_lem : ((k : ℕ) → k < 9 → word_of w (16 * r + k) ≡ g k) → cutter_at w (seen w) r ≡ cutter_by g
   unfolding cutter_at
-  cutter-by e = rw (prim_by w (16 * r) g (omega arith) e, first e)
+  cutter_by_lem e = rw (prim_by w (16 * r) g (omega arith) e, first e)
 
-  head-by : ((k : ℕ) → k < 13 → word_of w (16 * r + k) ≡ g k) → head_at w (seen w) r ≡ head_by g
+  head_by_lem : ((k : ℕ) → k < 13 → word_of w (16 * r + k) ≡ g k) → head_at w (seen w) r ≡ head_by g
   unfolding head_at
-  head-by e =
+  head_by_lem e =
       let at : (k : ℕ) → k < 9 → word_of w (16 * r + 3 + k) ≡ g (3 + k)
       = λ k p. ap (word_of w) (omega arith) ∙ e (3 + k) (omega arith) in
       rw (
@@ -130,18 +130,18 @@ module _ (plan : List ℕ) (g : ℕ → ℕ) where
   abbrev table : List ℕ
   table = plan_table 64 plan (bytes_of g)
 
-  pub given-head : head_at table (seen table) args_row ≡ head_by g
-  given-head = head-by table args_row g (omega arith) (λ k p. given_word 64 plan g k (omega arith) (omega arith))
+  pub given_head : head_at table (seen table) args_row ≡ head_by g
+  given_head = head_by_lem table args_row g (omega arith) (λ k p. given_word 64 plan g k (omega arith) (omega arith))
 
-  pub given-cuts
+  pub given_cuts
       : (n : ℕ)
       → n ≤ 8
       → cuts_by table (seen table) (args_row + 1) n ≡ list_from (λ j. cutter_by (λ k. g (16 * j + k))) 1 n
   unfolding cuts_by
-  given-cuts n h =
-      from-same (cutter_at table (seen table)) (λ j. cutter_by (λ k. g (16 * j + k))) (args_row + 1) 1 n
+  given_cuts n h =
+      from_same (cutter_at table (seen table)) (λ j. cutter_by (λ k. g (16 * j + k))) (args_row + 1) 1 n
       (λ j p.
-      cutter-by table (args_row + 1 + j) (λ k. g (16 * (1 + j) + k)) (omega arith)
+      cutter_by_lem table (args_row + 1 + j) (λ k. g (16 * (1 + j) + k)) (omega arith)
       (λ k q.
       let at : 16 * (args_row + 1 + j) + k ≡ plan_words + (16 * (1 + j) + k) = omega arith in
       ap (word_of table) at ∙ given_word 64 plan g (16 * (1 + j) + k) (omega arith) (omega arith)))
@@ -163,7 +163,7 @@ past w r k h = rw (le-ltb k 16 h)
 piece_same : (h k : Head) (f g : ℕ → Cutter) (a b n m : ℕ) → h ≡ k → n ≡ m
     → ((j : ℕ) → j < m → f (a + j) ≡ g (b + j))
     → ◌≡◌ {A = Piece} (record { head = h; cuts = list_from f a n }) (record { head = k; cuts = list_from g b m })
-piece_same h k f g a b n m e c s = rw (e, c, from-same f g a b m s)
+piece_same h k f g a b n m e c s = rw (e, c, from_same f g a b m s)
 
 pub piece_by_lem
     : (w : List ℕ) (r : ℕ)
@@ -174,12 +174,12 @@ unfolding piece_at cuts_by
 piece_by_lem w r h fit =
     let g : ℕ → ℕ = rows_of w r in
     let own : Head = head_at w (seen w) r in
-    let e : head_by g ≡ own = sym (head-by w r g h (λ k p. sym (own_word w r k (omega arith)))) in
+    let e : head_by g ≡ own = sym (head_by_lem w r g h (λ k p. sym (own_word w r k (omega arith)))) in
     piece_same (head_by g) own (λ j. cutter_by (λ k. g (16 * j + k))) (cutter_at w (seen w)) 1 (369 + own.place) (g 2)
     own.cutters e (ap (λ (x : Head). x.cutters) e)
     (λ j p.
     sym
-    (cutter-by w (369 + own.place + j) (λ k. g (16 * (1 + j) + k)) (omega arith)
+    (cutter_by_lem w (369 + own.place + j) (λ k. g (16 * (1 + j) + k)) (omega arith)
     (λ k q.
     let at : 16 * (369 + own.place + j) + k ≡ 16 * (368 + own.place) + (16 * (1 + j) + k) = omega arith in
     ap (word_of w) at ∙ sym (past w r (16 * (1 + j) + k) (omega arith)))))

@@ -17,7 +17,7 @@ use Rattle.plan.specs.declared.Material.{Material}
 use Rattle.plan.specs.Records.{word_of, float_of, material_at, light_at}
 use Rattle.plan.specs.Plan.{Plan, cuts_by, count_of, seen, plan_in}
 use Rattle.plan.specs.With.{with_material, with_light}
-use Rattle.plan.proofs.Rows.{float_of_lem, moved, light-same}
+use Rattle.plan.proofs.Rows.{float_of_lem, moved, light_same}
 use Rattle.plan_test.specs.Tests.{cutters_of}
 use Rattle.record_test.specs.Exact.{LightOk}
 use Rattle.plan_test.specs.Exact.{PieceOk, PlaceIs, SoundLit}
@@ -34,13 +34,13 @@ use Rattle.wire_entry.specs.Entries.{EntrySent, object_before}
 use Rattle.promises.specs.Bytes.{plan_at, FullPlan, FullTree}
 use Rattle.promises.specs.Demand1.{Lent, MaterialOk, MaterialTaken, LightTaken, PieceTaken, entering}
 use Rattle.promises.specs.Demand1.{Run, start, material, light, plane, object, empty_plan}
-use Rattle.promises.proofs.Demand1.Entries.{Entry, entry-enters, material-entry, light-entry, plane-entry}
-use Rattle.promises.proofs.Demand1.Entries.{object-entry}
+use Rattle.promises.proofs.Demand1.Entries.{Entry, entry_enters, material_entry_lem, light_entry_lem, plane_entry}
+use Rattle.promises.proofs.Demand1.Entries.{object_entry}
 use Rattle.promises.proofs.Alone.{alone}
 use Rattle.promises.proofs.Demand1.Runs.{zero_bytes, runs_pass}
 use Rattle.promises.proofs.Demand1.Small.{Small, bytes_zero, given_bytes}
-use Rattle.promises.proofs.Demand1.Given.{bytes_of, length_bytes, given_word, head_by, piece_by, given-head}
-use Rattle.promises.proofs.Demand1.Given.{given-cuts}
+use Rattle.promises.proofs.Demand1.Given.{bytes_of, length_bytes, given_word, head_by, piece_by, given_head}
+use Rattle.promises.proofs.Demand1.Given.{given_cuts}
 
 -- every list that is lent in a run is of bytes
 abbrev pub OfBytes : {plan : List ℕ} → Run plan → Type 0
@@ -99,7 +99,7 @@ step
     → OfBytes r
     → Reached after
 step {number} {need} {plan} {args} {left} e t h r b =
-    let x = entry-enters e (sends number 0 left plan) in
+    let x = entry_enters e (sends number 0 left plan) in
     let sound = (runs_pass r).0.solids in
     record {
       plan = stores number left plan;
@@ -111,14 +111,14 @@ step {number} {need} {plan} {args} {left} e t h r b =
 
 -- the plan that such bytes hold is sound, and is read so whatever is lent after it
 module _ {p : Plan} (r : Reached p) where
-  pub reached-sound : SoundLit p
-  reached-sound = subst SoundLit r.is (runs_pass r.run).0
+  pub reached_sound : SoundLit p
+  reached_sound = subst SoundLit r.is (runs_pass r.run).0
 
   read : (need : ℕ) (args : List ℕ) → plan_in (plan_table need r.plan args) ≡ p
   read need args = alone need r.plan args (runs_pass r.run).0.solids ∙ r.is
 
-  lent-all : (need : ℕ) (g : ℕ → ℕ) → need ≤ 576 → Lent need r.plan (bytes_of g) out
-  lent-all need g h =
+  lent_all : (need : ℕ) (g : ℕ → ℕ) → need ≤ 576 → Lent need r.plan (bytes_of g) out
+  lent_all need g h =
       record {
         plan_full = r.full;
         args_full = rw (length_bytes g) h;
@@ -154,15 +154,15 @@ reach_material {p} r h =
     let w : List ℕ = plan_table 20 plan args in
     let same = read r 20 args in
     let own = plain_given plan in
-    let e = material-entry plan args out in
+    let e = material_entry_lem plan args out in
     let taken : MaterialTaken w
     = record {
       ok = subst MaterialOk (sym own) plain_ok;
-      counts = rw same (reached-sound r).solids.counts;
+      counts = rw same (reached_sound r).solids.counts;
       room = rw same h;
     } in
     subst Reached (rw (same, own))
-    (step e (lent-all r 20 no_words (omega arith), taken) r.full
+    (step e (lent_all r 20 no_words (omega arith), taken) r.full
     (material args out _ _ _ r.run (sends _ (count_of materials w) _ plan))
     ((given_bytes no_words (λ i. omega arith), bytes_zero out_bytes), r.bytes))
 
@@ -183,17 +183,17 @@ reach_light {p} r t row l b ok h =
     let w : List ℕ = plan_table 60 plan args in
     let same = read r 60 args in
     let own : light_at (seen w) args_row ≡ light_at (seen t) row
-    = light-same
+    = light_same
     (moved 15 w t args_row row (omega arith) (omega arith) l
     (λ k q. given_word 60 plan g k (omega arith) (omega arith))) (omega arith) in
     let taken : LightTaken w
     = record {
       ok = subst LightOk (sym own) ok;
-      counts = rw same (reached-sound r).solids.counts;
+      counts = rw same (reached_sound r).solids.counts;
       room = rw same h;
     } in
     subst Reached (rw (same, own))
-    (step (light-entry plan args out) (lent-all r 60 g (omega arith), taken) r.full
+    (step (light_entry_lem plan args out) (lent_all r 60 g (omega arith), taken) r.full
     (light args out _ _ _ r.run (sends _ (count_of lights w) _ plan))
     ((given_bytes g (λ i. b (16 * row + i)), bytes_zero out_bytes), r.bytes))
 
@@ -223,35 +223,35 @@ module _ (among : Bool) {p : Plan} (r : Reached p) (g : ℕ → ℕ) (c : Comes 
   abbrev on : List ℕ
   on = plan_table 64 r.plan given
 
-  cutters-given : arg_cuts on ≡ g 2
-  cutters-given = given_word 64 r.plan g 2 (omega arith) (omega arith)
+  cutters_given : arg_cuts on ≡ g 2
+  cutters_given = given_word 64 r.plan g 2 (omega arith) (omega arith)
 
-  cuts-given : cuts_by on (seen on) (args_row + 1) (arg_cuts on) ≡ (piece_by g).cuts
-  cuts-given = rw cutters-given (given-cuts r.plan g (g 2) c.ok.few)
+  cuts_given : cuts_by on (seen on) (args_row + 1) (arg_cuts on) ≡ (piece_by g).cuts
+  cuts_given = rw cutters_given (given_cuts r.plan g (g 2) c.ok.few)
 
-  piece-is-taken : PieceTaken among (length given) on
-  piece-is-taken =
+  piece_is_taken : PieceTaken among (length given) on
+  piece_is_taken =
       let same = read r 64 given in
-      let n = cutters-given in
+      let n = cutters_given in
       let few = c.ok.few in
       record {
-        own = rw (same, given-head r.plan g) c.ok.own;
+        own = rw (same, given_head r.plan g) c.ok.own;
         few = omega arith;
         whole = rw (length_bytes g) (omega arith);
-        cuts = rw cuts-given c.ok.cuts;
-        sound = rw same (reached-sound r).solids;
+        cuts = rw cuts_given c.ok.cuts;
+        sound = rw same (reached_sound r).solids;
         room = rw same c.count;
         places = rw (same, n) c.room;
       }
 
-  entering-is : Placed among on → entering among on ≡ piece_by g
+  entering_is : Placed among on → entering among on ≡ piece_by g
   unfolding given_piece
-  entering-is d =
+  entering_is d =
       let same = read r 64 given in
-      let at = place_is among on (head_by g) d (rw same c.at) (sym cutters-given) in
-      rw (at, given-head r.plan g, cuts-given)
+      let at = place_is among on (head_by g) d (rw same c.at) (sym cutters_given) in
+      rw (at, given_head r.plan g, cuts_given)
 
-  reach-by
+  reach_by
       : (before : ℕ) (L : Type 0)
       → Entry (piece_entry before among on (seen on) (length given)) 64 r.plan given
       (piece_left among on (seen on)) L (PieceTaken among (length given) on)
@@ -261,12 +261,12 @@ module _ (among : Bool) {p : Plan} (r : Reached p) (g : ℕ → ℕ) (c : Comes 
       : Run (stores (piece_entry before among on (seen on) (length given)) (piece_left among on (seen on)) r.plan))
       → OfBytes run
       → Reached (with_one among p (piece_by g))
-  reach-by before L e l run b =
-      let t : L × PieceTaken among (length given) on = (l, piece-is-taken) in
+  reach_by before L e l run b =
+      let t : L × PieceTaken among (length given) on = (l, piece_is_taken) in
       let d = placed_for among on (accepted before among on (length given) (e.exactly.1 t)) in
       let after : with_one among (plan_in on) (entering among on) ≡ with_one among p (piece_by g)
       = ap (λ (q : Plan). with_one among q (entering among on)) (read r 64 given)
-      ∙ ap (with_one among p) (entering-is d) in
+      ∙ ap (with_one among p) (entering_is d) in
       subst Reached after (step e t r.full run b)
 
 pub reach_plane
@@ -275,8 +275,8 @@ reach_plane r g c =
     let args : List ℕ = bytes_of g in
     let before : ℕ = plan_before (length r.plan) 64 (length args) (length out) in
     let w : List ℕ = plan_table 64 r.plan args in
-    reach-by true r g c before (Lent 64 r.plan args out) (plane-entry r.plan args out)
-    (lent-all r 64 g (omega arith))
+    reach_by true r g c before (Lent 64 r.plan args out) (plane_entry r.plan args out)
+    (lent_all r 64 g (omega arith))
     (plane args out _ _ _ r.run (sends _ (count_of planes w) _ r.plan))
     ((given_bytes g c.small, bytes_zero out_bytes), r.bytes)
 
@@ -292,9 +292,9 @@ reach_object r g c =
       nodes_full = zeros_long nodes_bytes;
       order_full = zeros_long order_bytes;
     } in
-    reach-by false r g c (object_before r.plan nodes order args out)
+    reach_by false r g c (object_before r.plan nodes order args out)
     (Lent 64 r.plan args out × FullTree nodes order)
-    (object-entry r.plan args out nodes order) (lent-all r 64 g (omega arith), tree)
+    (object_entry r.plan args out nodes order) (lent_all r 64 g (omega arith), tree)
     (object nodes order args out _ _ _ _ _ r.run
     (record { piece = sends _ (count_of objects w) _ r.plan; nodes_is = refl; order_is = refl })) (
       ((bytes_zero nodes_bytes, bytes_zero order_bytes), (given_bytes g c.small, bytes_zero out_bytes)),

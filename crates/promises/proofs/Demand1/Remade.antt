@@ -9,7 +9,7 @@ use mathlib.Core.List.{List, [], ◌∷◌, ◌++◌}
 use lib.ListN.{length}
 use lib.Dec.{ltb}
 use Rattle.words.specs.Lists.{list_from, All}
-use Rattle.words.proofs.Runs.{from-snoc, length_from, All-from}
+use Rattle.words.proofs.Runs.{from_snoc, length_from, All-from}
 use Rattle.words.proofs.Laws.{Bytes}
 use Rattle.plan.specs.Sections.{materials, planes, lights, objects}
 use Rattle.plan.specs.declared.Head.{Head}
@@ -20,14 +20,14 @@ use Rattle.plan.specs.Plan.{Piece, Plan, piece_at, pieces_from, count_of, plan_o
 use Rattle.plan_test.specs.Tests.{cutters_of, lit_number}
 use Rattle.record_test.specs.Exact.{LightOk}
 use Rattle.plan_test.specs.Exact.{PieceOk, PlaceIs, PlacesAre, CountsOk, SoundLit}
-use Rattle.plan_test.proofs.Exact.{lit-exact}
+use Rattle.plan_test.proofs.Exact.{lit_exact}
 use Rattle.wire.specs.Lent.{plan_table}
 use Rattle.promises.specs.Bytes.{plan_at}
 use Rattle.promises.proofs.Cases.{either}
 use Rattle.plan_entry.proofs.Made.{materials_of, lights_of, pieces_of}
 use Rattle.promises.proofs.Demand1.Small.{Small, table_small}
 use Rattle.promises.proofs.Demand1.Given.{head_by, piece_by, rows_of, piece_by_lem}
-use Rattle.promises.proofs.Demand1.Reached.{Reached, plain_material, reached-sound, reach_none, reach_material}
+use Rattle.promises.proofs.Demand1.Reached.{Reached, plain_material, reached_sound, reach_none, reach_material}
 use Rattle.promises.proofs.Demand1.Reached.{reach_light, reach_plane, reach_object}
 
 -- ---- piece k of a list of pieces: its place, and the room that it leaves
@@ -89,7 +89,7 @@ module _ (among : Bool) (m : ℕ) (w : List ℕ) (small : (i : ℕ) → Small (w
       let head : head_by g ≡ o.head = ap (λ (x : Piece). x.head) same in
       let cutters : g 2 ≡ o.head.cutters = ap (λ (x : Head). x.cutters) head in
       subst (λ (l : List Piece). Reached (put l))
-      (ap (λ (x : Piece). os ++ (x ∷ [])) same ∙ sym (from-snoc f a k))
+      (ap (λ (x : Piece). os ++ (x ∷ [])) same ∙ sym (from_snoc f a k))
       (next os g (rows_small w small (a + k)) (rw same (All-from (PieceOk among m) f a n each k (omega arith)))
       (subst (λ (x : Head). PlaceIs among (cutters_of os) x) (sym head) at)
       (omega (arith, length_from f a k)) (omega arith) (refill k (omega arith) r))
@@ -106,7 +106,7 @@ unfolding list_from
 fill_materials zero h = reach_none
 fill_materials (suc m) h =
     subst (λ (l : List Material). Reached (record { materials = l; planes = []; lights = []; objects = [] }))
-    (sym (from-snoc plain 0 m))
+    (sym (from_snoc plain 0 m))
     (reach_material (fill_materials m (omega arith)) (omega (arith, length_from plain 0 m)))
 
 -- what entries make of a plan
@@ -131,9 +131,9 @@ module _ (w : List ℕ) (small : (i : ℕ) → Small (word_of w i)) (s : SoundLi
   as_many : length (list_from plain 0 m) ≡ length p.materials
   as_many = length_from plain 0 m ∙ sym (materials_of w)
 
-  fill-planes : Reached (plan_of_lists m [] [] []) → Reached (plan_of_lists m p.planes [] [])
+  fill_planes : Reached (plan_of_lists m [] [] []) → Reached (plan_of_lists m p.planes [] [])
   unfolding plan_of pieces_from cutters_of
-  fill-planes =
+  fill_planes =
       let n : ℕ = count_of planes w in
       let room = s.solids.room in
       let most : n ≤ 16 = rw (pieces_of true w) at few.planes in
@@ -143,12 +143,12 @@ module _ (w : List ℕ) (small : (i : ℕ) → Small (word_of w i)) (s : SoundLi
       reach_plane r g
       (record { small = b; ok = rw as_many ok; at = at; count = omega arith; room = omega arith })) n (omega arith)
 
-  fill-objects
+  fill_objects
       : (ls : List QuadLight)
       → Reached (plan_of_lists m p.planes ls [])
       → Reached (plan_of_lists m p.planes ls p.objects)
   unfolding plan_of pieces_from
-  fill-objects ls =
+  fill_objects ls =
       let n : ℕ = count_of objects w in
       let room = s.solids.room in
       let most : n ≤ 256 = rw (pieces_of false w) at few.objects in
@@ -158,29 +158,29 @@ module _ (w : List ℕ) (small : (i : ℕ) → Small (word_of w i)) (s : SoundLi
       reach_object r g
       (record { small = b; ok = rw as_many ok; at = at; count = omega arith; room = omega arith })) n (omega arith)
 
-  fill-lights
+  fill_lights
       : (ps : List Piece) (k : ℕ)
       → k ≤ count_of lights w
       → Reached (plan_of_lists m ps [] [])
       → Reached (plan_of_lists m ps (list_from (light_in (seen w)) 0 k) [])
   unfolding plan_of list_from light_in
-  fill-lights ps zero h r = r
-  fill-lights ps (suc k) h r =
+  fill_lights ps zero h r = r
+  fill_lights ps (suc k) h r =
       let n : ℕ = count_of lights w in
       let most : n ≤ 16 = rw (lights_of w) at few.lights in
       let ok = All-from LightOk (light_in (seen w)) 0 n s.lights k (omega arith) in
-      subst (λ (ls : List QuadLight). Reached (plan_of_lists m ps ls [])) (sym (from-snoc (light_in (seen w)) 0 k))
-      (reach_light (fill-lights ps k (omega arith) r) w (81 + 2 * (0 + k)) (omega arith) small ok
+      subst (λ (ls : List QuadLight). Reached (plan_of_lists m ps ls [])) (sym (from_snoc (light_in (seen w)) 0 k))
+      (reach_light (fill_lights ps k (omega arith) r) w (81 + 2 * (0 + k)) (omega arith) small ok
       (omega (arith, length_from (light_in (seen w)) 0 k)))
 
   remade : Remade p
   unfolding plan_of
   remade =
       let c = few.materials in
-      let planes = fill-planes (fill_materials m (omega (arith, materials_of w))) in
+      let planes = fill_planes (fill_materials m (omega (arith, materials_of w))) in
       record {
         made = plan_of_lists m p.planes p.lights p.objects;
-        reached = fill-objects p.lights (fill-lights p.planes (count_of lights w) (omega arith) planes);
+        reached = fill_objects p.lights (fill_lights p.planes (count_of lights w) (omega arith) planes);
         materials_as_many = as_many;
         planes_same = refl;
         lights_same = refl;
@@ -221,10 +221,10 @@ sound_by p q m a l o s =
 
 pub passes_exactly : (plan : List ℕ) → Bytes plan → (lit_number (plan_at plan) ≡ 0) ↔ Remade (plan_at plan)
 passes_exactly plan b =
-    let e = lit-exact (plan_at plan) in (
+    let e = lit_exact (plan_at plan) in (
       λ z. passes_made plan b (e.0 z),
       λ r.
           e.1
           (sound_by (plan_at plan) r.made r.materials_as_many r.planes_same r.lights_same r.objects_same
-          (reached-sound r.reached)),
+          (reached_sound r.reached)),
     )

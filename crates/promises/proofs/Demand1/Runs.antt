@@ -12,7 +12,7 @@ use Rattle.plan.specs.Sections.{plan_words, table_words, materials, planes, ligh
 use Rattle.plan.specs.Records.{word_of}
 use Rattle.plan.specs.Plan.{Plan, pieces_from, count_of, plan_of}
 use Rattle.plan_test.specs.Exact.{SoundLit}
-use Rattle.plan_test.proofs.Exact.{counts_exact, objects-exact, solids-exact, lit-exact}
+use Rattle.plan_test.proofs.Exact.{counts_exact, objects_exact, solids_exact, lit_exact}
 use Rattle.plan_entry.specs.After as made
 use Rattle.plan_entry.specs.After.{Made}
 use Rattle.plan_entry.proofs.Made.{made_lit}
@@ -20,10 +20,10 @@ use Rattle.wire.specs.Lent.{plan_table}
 use Rattle.wire_entry.specs.Entries.{EntrySent}
 use Rattle.promises.specs.Bytes.{plan_with, plan_at}
 use Rattle.promises.specs.Demand1.{Run, start, material, light, plane, object, Passes, empty_plan}
-use Rattle.promises.proofs.Tables.{plan-length, zeros, zero_plan}
+use Rattle.promises.proofs.Tables.{plan_length, zeros, zero_plan}
 use Rattle.promises.proofs.Alone.{SamePlan, lent_same, Front-same, alone}
-use Rattle.promises.proofs.Demand1.Entries.{Entry, plan-kept, plan-loaded, material-entry, light-entry}
-use Rattle.promises.proofs.Demand1.Entries.{plane-entry, object-entry}
+use Rattle.promises.proofs.Demand1.Entries.{Entry, plan_kept, plan_loaded, material_entry_lem, light_entry_lem}
+use Rattle.promises.proofs.Demand1.Entries.{plane_entry, object_entry}
 
 -- a plan made by entries stays one in any table that has its words, so with other arguments
 same_made
@@ -35,8 +35,8 @@ relent
     → Made (plan_table need plan args)
     → Made (plan_table need' plan args')
 relent need need' plan args args' =
-    same_made (plan_table need plan args) (plan_table need' plan args') (plan-length need plan args)
-    (plan-length need' plan args') (lent_same need' need plan args' args)
+    same_made (plan_table need plan args) (plan_table need' plan args') (plan_length need plan args)
+    (plan_length need' plan args') (lent_same need' need plan args' args)
 
 -- and with one entry more, taken or refused
 still_made
@@ -48,23 +48,23 @@ still_made
     → Made (plan_table 0 plan' [])
 still_made {number} {index} {need} {plan} {args} {left} {out} {n} {plan'} e s m =
     ⊎_elim
-    (λ h. subst (λ (b : List ℕ). Made (plan_table 0 b [])) (sym (plan-kept e s h)) m)
+    (λ h. subst (λ (b : List ℕ). Made (plan_table 0 b [])) (sym (plan_kept e s h)) m)
     (λ h.
     let z : number ≡ 0 = omega arith in
     relent need 0 plan' args []
-    (subst Made (sym (plan-loaded e s z)) (e.makes (relent 0 need plan [] args m) (e.exactly.0 z).1)))
+    (subst Made (sym (plan_loaded e s z)) (e.makes (relent 0 need plan [] args m) (e.exactly.0 z).1)))
     (less_or 0 number)
 
 run_made : {plan : List ℕ} → Run plan → Made (plan_table 0 plan [])
 run_made (start k) =
     same_made (replicate table_words 0) (plan_table 0 (replicate k 0) []) (length-replicate {A = ℕ} table_words 0)
-    (plan-length 0 (replicate k 0) [])
+    (plan_length 0 (replicate k 0) [])
     (λ i h. zero_plan 0 k [] i h ∙ sym (zeros table_words i)) made.empty
-run_made (material {plan} args out n plan' out' r e) = still_made (material-entry plan args out) e (run_made r)
-run_made (light {plan} args out n plan' out' r e) = still_made (light-entry plan args out) e (run_made r)
-run_made (plane {plan} args out n plan' out' r e) = still_made (plane-entry plan args out) e (run_made r)
+run_made (material {plan} args out n plan' out' r e) = still_made (material_entry_lem plan args out) e (run_made r)
+run_made (light {plan} args out n plan' out' r e) = still_made (light_entry_lem plan args out) e (run_made r)
+run_made (plane {plan} args out n plan' out' r e) = still_made (plane_entry plan args out) e (run_made r)
 run_made (object {plan} nodes order args out n plan' nodes' order' out' r e) =
-    still_made (object-entry plan args out nodes order) e.piece (run_made r)
+    still_made (object_entry plan args out nodes order) e.piece (run_made r)
 
 passes : (p : Plan) → SoundLit p → Passes p
 passes p s =
@@ -73,9 +73,9 @@ passes p s =
     record {
       counts_pass = (counts_exact p).1 solids.counts;
       objects_pass =
-          (objects-exact p).1 (record { counts = solids.counts; objects = solids.objects; room = omega arith });
-      solids_pass = (solids-exact p).1 solids;
-      lit_pass = (lit-exact p).1 s;
+          (objects_exact p).1 (record { counts = solids.counts; objects = solids.objects; room = omega arith });
+      solids_pass = (solids_exact p).1 solids;
+      lit_pass = (lit_exact p).1 s;
     }
 
 -- zero bytes are the empty plan: over any floats
@@ -99,7 +99,7 @@ pub runs_pass
     → Run plan
     → SoundLit (plan_at plan) × ((need : ℕ) (args : List ℕ) → Passes (plan_with need plan args))
 runs_pass {plan} r =
-    let s = (lit-exact (plan_at plan)).0 (made_lit (run_made r)) in (
+    let s = (lit_exact (plan_at plan)).0 (made_lit (run_made r)) in (
       s,
       λ need args. passes (plan_with need plan args) (subst SoundLit (sym (alone need plan args s.solids)) s),
     )

@@ -17,7 +17,7 @@ use Rattle.plan_test.specs.Tests.{solids_of}
 use Rattle.record_test.specs.Exact.{CutterOk, HeadOk}
 use Rattle.plan_test.specs.Exact.{CountsOk, SoundSolids}
 use Rattle.record_test.proofs.Numbers.{own_exact, cuts_exact, light_exact}
-use Rattle.plan_test.proofs.Exact.{counts_exact, solids-exact, solids-used}
+use Rattle.plan_test.proofs.Exact.{counts_exact, solids_exact, solids_used}
 use Rattle.plan_write.specs.Written.{arg_cuts, section_of}
 use Rattle.plan_entry.specs.Entry.{arg_cuts_number, args_number, room_number, piece_number}
 use Rattle.plan_entry.specs.Entry.{record_number}
@@ -50,19 +50,19 @@ record_exact s w p q =
     (unless_exact 1 (and_exact (counts_exact (plan_in w)) (ltb_exact (count_of s w) s.most)))
 
 module _ (before : ℕ) (P : Type 0) (p : (before ≡ 0) ↔ P) (w : List ℕ) where
-  pub material-taken
+  pub material_taken
       : (record_number before (material_number (material_at (seen w) args_row)) materials w ≡ 0)
       ↔ (P × MaterialTaken w)
-  material-taken =
+  material_taken =
       let e = record_exact materials w p (material_exact (material_at (seen w) args_row)) in (
         λ z. let x = e.0 z in
             (x.0.0, record { ok = x.0.1; counts = x.1.0; room = rw (materials_of w) x.1.1 }),
         λ x. let t = x.1 in e.1 ((x.0, t.ok), (t.counts, rw (materials_of w) at t.room)),
       )
 
-  pub light-taken
+  pub light_taken
       : (record_number before (light_number (light_at (seen w) args_row)) lights w ≡ 0) ↔ (P × LightTaken w)
-  light-taken =
+  light_taken =
       let e = record_exact lights w p (light_exact (light_at (seen w) args_row)) in (
         λ z. let x = e.0 z in
             (x.0.0, record { ok = x.0.1; counts = x.1.0; room = rw (lights_of w) x.1.1 }),
@@ -86,33 +86,33 @@ module _ (before : ℕ) (P : Type 0) (p : (before ≡ 0) ↔ P) (among : Bool) (
   abbrev Room : Type 0
   Room = (count_of (section_of among) w < (section_of among).most) × (s.planes + (s.objects + n) ≤ cutter_places)
 
-  cutters-exact : (arg_cuts_number w (seen w) bytes n ≡ 0) ↔ Cutters
+  cutters_exact : (arg_cuts_number w (seen w) bytes n ≡ 0) ↔ Cutters
   unfolding arg_cuts_number
-  cutters-exact =
+  cutters_exact =
       cond_exact 1 (and_exact (leb_exact n cuts_most) (leb_exact (64 + 64 * n) bytes))
       (cuts_exact (cuts_by w (seen w) (args_row + 1) n))
 
-  piece-parts
+  piece_parts
       : (piece_number before among w (seen w) s bytes ≡ 0)
       ↔ (P × ((Own × Cutters) × (SoundSolids (plan_in w) × Room)))
   unfolding piece_number args_number room_number head_at
-  piece-parts =
+  piece_parts =
       lower_exact p
       (lower_exact
-      (lower_exact (own_exact among (count_of materials w) (head_at w (seen w) args_row)) cutters-exact)
-      (lower_exact (solids-exact (plan_in w))
+      (lower_exact (own_exact among (count_of materials w) (head_at w (seen w) args_row)) cutters_exact)
+      (lower_exact (solids_exact (plan_in w))
       (unless_exact 1
       (and_exact (ltb_exact (count_of (section_of among) w) (section_of among).most)
       (leb_exact (s.planes + (s.objects + n)) cutter_places)))))
 
-  pub piece-taken : (piece_number before among w (seen w) s bytes ≡ 0) ↔ (P × PieceTaken among bytes w)
-  piece-taken = (
+  pub piece_taken : (piece_number before among w (seen w) s bytes ≡ 0) ↔ (P × PieceTaken among bytes w)
+  piece_taken = (
     λ e.
-        let x = piece-parts.0 e in
+        let x = piece_parts.0 e in
         let cut = x.1.0.1 in
         let sound = x.1.1.0 in
         let fit = x.1.1.1 in
-        let u = solids-used (plan_in w) ((solids-exact (plan_in w)).1 sound) in (
+        let u = solids_used (plan_in w) ((solids_exact (plan_in w)).1 sound) in (
           x.0,
           record {
             own = rw (materials_of w) x.1.0.0;
@@ -126,8 +126,8 @@ module _ (before : ℕ) (P : Type 0) (p : (before ≡ 0) ↔ P) (among : Bool) (
         ),
     λ x.
         let t = x.1 in
-        let u = solids-used (plan_in w) ((solids-exact (plan_in w)).1 t.sound) in
-        piece-parts.1 (
+        let u = solids_used (plan_in w) ((solids_exact (plan_in w)).1 t.sound) in
+        piece_parts.1 (
           x.0,
           (
             (rw (materials_of w) at t.own, ((t.few, t.whole), t.cuts)),

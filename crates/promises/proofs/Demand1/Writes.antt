@@ -18,7 +18,7 @@ use Rattle.plan_write.specs.Written.{put_cutters, one_more, with_piece, with_mat
 use Rattle.plan_write.proofs.Lists.{row_out, length_row, row_other}
 use Rattle.wire_lengths.specs.Lengths.{plan_bytes}
 use Rattle.wire.specs.Lent.{lent_of, plan_table}
-use Rattle.promises.proofs.Tables.{stored-word, lent_full, plan-length, plan-word, rest_word}
+use Rattle.promises.proofs.Tables.{stored_word, lent_full, plan_length, plan_word, rest_word}
 
 pub record WritesPlan (w left : List ℕ) : Type 0 where
   pub size : length left ≡ length w
@@ -36,7 +36,7 @@ stored_front
 stored_front m n plan left i f h l p =
     let ws : List ℕ = take m left in
     ap (λ (t : List ℕ). word_at t i) (lent_full (with_words plan ws) n (rw (length_puts plan 0 ws) h))
-    ∙ stored-word plan ws m (length-take-le m left l) (omega arith) i p
+    ∙ stored_word plan ws m (length-take-le m left l) (omega arith) i p
     ∙ get_or-take m left i 0 p
 
 pub stored_table
@@ -46,21 +46,21 @@ pub stored_table
     → plan_table need (with_words plan (take plan_words left)) args ≡ left
 stored_table need plan args left h l =
     let plan' : List ℕ = with_words plan (take plan_words left) in
-    let long = plan-length need plan args in
+    let long = plan_length need plan args in
     let size = l.size in
-    ext_get_or 0 (plan_table need plan' args) left (plan-length need plan' args ∙ sym long ∙ sym size)
+    ext_get_or 0 (plan_table need plan' args) left (plan_length need plan' args ∙ sym long ∙ sym size)
     (λ i _.
     ⊎_elim
     (λ p.
-    plan-word need plan' args i p
+    plan_word need plan' args i p
     ∙ stored_front plan_words plan_bytes plan left i (omega arith) h (omega arith) p)
     (λ p. rest_word need plan' plan args i p ∙ sym (l.after i p))
     (less_or i plan_words))
 
 -- ---- row by row
 module _ (w v : List ℕ) (l : WritesPlan w v) where
-  put-row : (r : ℕ) (words : List ℕ) → length words ≤ 16 → WritesPlan w (put_row v r words)
-  put-row r words h =
+  put_row_lem : (r : ℕ) (words : List ℕ) → length words ≤ 16 → WritesPlan w (put_row v r words)
+  put_row_lem r words h =
       record {
         size = length_row v r words ∙ l.size;
         after = λ i p.
@@ -85,7 +85,7 @@ put_cutters_lem : (w : List ℕ) (place n : ℕ) → WritesPlan w (put_cutters w
 unfolding put_cutters
 put_cutters_lem w place zero = unwritten w
 put_cutters_lem w place (suc n) =
-    put-row w (put_cutters w place n) (put_cutters_lem w place n) (cutter_row + place + n) (cutter_words w (args_row + 1 + n))
+    put_row_lem w (put_cutters w place n) (put_cutters_lem w place n) (cutter_row + place + n) (cutter_words w (args_row + 1 + n))
     (omega arith)
 
 abbrev sixteen : (w : List ℕ) (n : ℕ) → length (record_words w n) ≡ 16
@@ -99,19 +99,19 @@ pub piece_writes : (among : Bool) (w : List ℕ) (place : ℕ) → WritesPlan w 
 unfolding with_piece
 piece_writes among w place =
     let at : ℕ = (section_of among).first + count_of (section_of among) w in
-    put_count w _ (put-row w _ (put_cutters_lem w place (arg_cuts w)) at (piece_words w place) (omega arith))
+    put_count w _ (put_row_lem w _ (put_cutters_lem w place (arg_cuts w)) at (piece_words w place) (omega arith))
     (section_of among).count (one_more (count_of (section_of among) w)) (count_word among)
 
 pub material_writes : (w : List ℕ) → WritesPlan w (with_material_words w)
 unfolding with_material_words
 material_writes w =
-    put_count w _ (put-row w w (unwritten w) (1 + count_of materials w) (record_words w 5) (omega (arith, sixteen w 5)))
+    put_count w _ (put_row_lem w w (unwritten w) (1 + count_of materials w) (record_words w 5) (omega (arith, sixteen w 5)))
     0 (one_more (count_of materials w)) (omega arith)
 
 pub light_writes : (w : List ℕ) → WritesPlan w (with_light_words w)
 unfolding with_light_words
 light_writes w =
     let r : ℕ = 81 + 2 * count_of lights w in
-    let first = put-row w w (unwritten w) r (record_words w 15) (omega (arith, sixteen w 15)) in
-    put_count w _ (put-row w _ first (r + 1) (record_words w 0) (omega (arith, sixteen w 0)))
+    let first = put_row_lem w w (unwritten w) r (record_words w 15) (omega (arith, sixteen w 15)) in
+    put_count w _ (put_row_lem w _ first (r + 1) (record_words w 0) (omega (arith, sixteen w 0)))
     2 (one_more (count_of lights w)) (omega arith)

@@ -14,40 +14,40 @@ use Rattle.bvh_rules.specs.Nodes.{nodes_of, order_of}
 use Rattle.wire_lengths.specs.Lengths.{nodes_bytes, order_bytes}
 use Rattle.wire.specs.Lent.{plan_table, ask_table}
 use Rattle.promises.specs.Bytes.{plan_at, words_of_nodes, node_floats, order_words, FullTree}
-use Rattle.promises.proofs.Tables.{table-length, table-nodes, table-floats, table-order, used_full}
-use Rattle.promises.proofs.Alone.{asked_same, sound_housed, objects-alone, sound-alone}
+use Rattle.promises.proofs.Tables.{table_length, table_nodes, table_floats, table_order, used_full}
+use Rattle.promises.proofs.Alone.{asked_same, sound_housed, objects_alone, sound_alone}
 
 module _ (need : ℕ) (plan nodes order args : List ℕ) where
   abbrev W : List ℕ
   W = ask_table need plan nodes order 1 args
 
-  pub ask-length : length (ask_table need plan nodes order 1 args) ≡ table_words
+  pub ask_length : length (ask_table need plan nodes order 1 args) ≡ table_words
   unfolding ask_table
-  ask-length = table-length _ _ _ _
+  ask_length = table_length _ _ _ _
 
-  pub ask-sound : SoundObjects (plan_at plan) → SoundObjects (plan_in (ask_table need plan nodes order 1 args))
-  ask-sound = sound-alone (plan_table 0 plan []) W (asked_same need plan nodes order 1 args)
+  pub ask_sound : SoundObjects (plan_at plan) → SoundObjects (plan_in (ask_table need plan nodes order 1 args))
+  ask_sound = sound_alone (plan_table 0 plan []) W (asked_same need plan nodes order 1 args)
 
   -- ---- the tree's tables
   module _ (full : FullTree nodes order) where
-    pub ask-nodes : nodes_of (ask_table need plan nodes order 1 args) ≡ words_of_nodes nodes
+    pub ask_nodes : nodes_of (ask_table need plan nodes order 1 args) ≡ words_of_nodes nodes
     unfolding ask_table
-    ask-nodes =
-        table-nodes _ _ _ _
+    ask_nodes =
+        table_nodes _ _ _ _
         ∙ ap (λ (t : List ℕ). words_of t nodes_words) (used_full nodes nodes_bytes full.nodes_full)
 
-    ask-floats : nodes_of (seen W) ≡ node_floats nodes
+    ask_floats : nodes_of (seen W) ≡ node_floats nodes
     unfolding ask_table
-    ask-floats = table-floats _ _ _ _ ∙ ap node_floats (used_full nodes nodes_bytes full.nodes_full)
+    ask_floats = table_floats _ _ _ _ ∙ ap node_floats (used_full nodes nodes_bytes full.nodes_full)
 
-    pub ask-order : order_of (ask_table need plan nodes order 1 args) ≡ order_words order
+    pub ask_order : order_of (ask_table need plan nodes order 1 args) ≡ order_words order
     unfolding ask_table
-    ask-order =
-        table-order _ _ _ _
+    ask_order =
+        table_order _ _ _ _
         ∙ ap (λ (t : List ℕ). words_of t order_places) (used_full order order_bytes full.order_full)
 
     -- whatever is worked out of a table's nodes, order and boxes is that of the bytes, for any plan of these objects
-    pub ask-reads
+    pub ask_reads
         : {A : Type 0} (of : List ℕ → List Float → List ℕ → List Aabb → A) (made : List ℕ)
         → SoundObjects (plan_at made)
         → (plan_at plan).objects ≡ (plan_at made).objects
@@ -55,8 +55,8 @@ module _ (need : ℕ) (plan nodes order args : List ℕ) where
         of (nodes_of w) (nodes_of (seen w)) (order_of w) (boxes_of (plan_in w))
         ≡ of (words_of_nodes nodes) (node_floats nodes) (order_words order) (boxes_of (plan_at made))
     unfolding boxes_of
-    ask-reads of made sound e =
+    ask_reads of made sound e =
         let objects : (plan_in W).objects ≡ (plan_at plan).objects
-        = objects-alone (plan_table 0 plan []) W (asked_same need plan nodes order 1 args)
+        = objects_alone (plan_table 0 plan []) W (asked_same need plan nodes order 1 args)
         (rw e (sound_housed (plan_at made) sound)) in
-        rw (ask-nodes, ask-floats, ask-order, objects, e)
+        rw (ask_nodes, ask_floats, ask_order, objects, e)

@@ -16,13 +16,13 @@ use Rattle.refusals.proofs.Lowest.{unless_zero}
 use Rattle.plan.specs.Sections.{nodes_words, order_places}
 use Rattle.plan.specs.Plan.{Plan}
 use Rattle.plan_test.specs.Exact.{SoundObjects}
-use Rattle.plan_test.proofs.Exact.{objects-exact}
+use Rattle.plan_test.proofs.Exact.{objects_exact}
 use Rattle.bvh_rules.specs.Rules.{size, depth}
 use Rattle.bvh_build.specs.Encode.{encode, laid}
 use Rattle.bvh_build.specs.Tables.{built_of, size_of, low_enough, nodes_with, order_with}
-use Rattle.bvh_build.proofs.Laid.{length-laid}
+use Rattle.bvh_build.proofs.Laid.{length_laid}
 use Rattle.bvh_build.proofs.Shape.{low_depth}
-use Rattle.bvh_build.proofs.Meets.{built-holds, built-low}
+use Rattle.bvh_build.proofs.Meets.{built_holds, built_low}
 use Rattle.wire_lengths.specs.Lengths.{out_bytes, tree_tables_before}
 use Rattle.bemitondry_tree.specs.Trees.{no_nodes, no_order, build_number}
 use Rattle.wire_tree.specs.Trees.{build_stores, built_words, BuildSent}
@@ -31,8 +31,8 @@ use Rattle.promises.specs.Demand1.{Lent}
 use Rattle.promises.specs.Demand3.{BuildKeeps}
 use Rattle.promises.proofs.Cases.{either}
 use Rattle.promises.proofs.Lengths.{lent_tree_exact}
-use Rattle.promises.proofs.Tables.{stored-words}
-use Rattle.promises.proofs.Replies.{sent-number, sent_word}
+use Rattle.promises.proofs.Tables.{stored_words}
+use Rattle.promises.proofs.Replies.{sent_number, sent_word}
 
 -- ---- what is built
 module _ (p : Plan) where
@@ -47,9 +47,9 @@ module _ (p : Plan) where
   unfolding low_enough size_of
   of_some h = rw (ne_eqb (length p.objects) 0 (λ e. omega arith)) (low_depth (built_of p).tree 64, refl)
 
-  deep-exact : (unless too_deep (low_enough p) ≡ too_deep) ↔ ((0 < length p.objects) × (63 < deepest))
+  deep_exact : (unless too_deep (low_enough p) ≡ too_deep) ↔ ((0 < length p.objects) × (63 < deepest))
   unfolding unless
-  deep-exact =
+  deep_exact =
       elim (dec_le 1 (length p.objects)) [
         | yes some ↦
             rw (of_some some).0
@@ -60,7 +60,7 @@ module _ (p : Plan) where
       ]
 
 over_length : (b : Bool) (xs ys : List ℕ) → length (cond b xs (laid xs 0 ys)) ≡ length xs
-over_length b xs ys = either (λ (l : List ℕ). length l ≡ length xs) b xs (laid xs 0 ys) refl (length-laid xs 0 ys)
+over_length b xs ys = either (λ (l : List ℕ). length l ≡ length xs) b xs (laid xs 0 ys) refl (length_laid xs 0 ys)
 
 nodes_length : (p : Plan) (nodes : List ℕ) → length (nodes_with p nodes) ≡ length nodes
 unfolding nodes_with
@@ -79,7 +79,7 @@ built_words_lem
     → b' ≡ cond (build_stores number) (with_words b (built_words number ws none)) b
     → words_of b' n ≡ ws
 unfolding build_stores
-built_words_lem number n b b' ws none z l h e = rw (e, z) (stored-words b ws n l h)
+built_words_lem number n b b' ws none z l h e = rw (e, z) (stored_words b ws n l h)
 
 none_or_deep : (b : Bool) → (unless too_deep b ≡ 0) ⊎ (unless too_deep b ≡ too_deep)
 unfolding unless
@@ -96,45 +96,45 @@ module _ (plan nodes order out : List ℕ) (n : ℕ) (nodes' order' out' : List 
     abbrev number : ℕ
     number = build_number (tree_tables_before (length plan) (length nodes) (length order) 0 0 (length out)) P
 
-    number-depth : number ≡ unless too_deep (low_enough P)
+    number_depth : number ≡ unless too_deep (low_enough P)
     unfolding build_number lower
-    number-depth =
+    number_depth =
         let lent : Lent 0 plan [] out = record { plan_full = fp; args_full = omega arith; out_full = fo } in
-        rw ((lent_tree_exact 0 plan nodes order [] out).1 (lent, ft), (objects-exact P).1 sound)
+        rw ((lent_tree_exact 0 plan nodes order [] out).1 (lent, ft), (objects_exact P).1 sound)
 
     sent_is : n ≡ number
-    sent_is = sent-number _ _ sent.sent
+    sent_is = sent_number _ _ sent.sent
 
-    sent-depth : n ≡ unless too_deep (low_enough P)
-    sent-depth = sent_is ∙ number-depth
+    sent_depth : n ≡ unless too_deep (low_enough P)
+    sent_depth = sent_is ∙ number_depth
 
     nodes_are : n ≡ 0 → words_of_nodes nodes' ≡ nodes_with P no_nodes
     nodes_are z =
         built_words_lem number nodes_words nodes nodes' (nodes_with P no_nodes) no_nodes (sym sent_is ∙ z)
         (nodes_length P no_nodes ∙ length-replicate {A = ℕ} nodes_words 0) ft.nodes_full sent.nodes_is
 
-    order-are : n ≡ 0 → order_words order' ≡ order_with P no_order
-    order-are z =
+    order_are : n ≡ 0 → order_words order' ≡ order_with P no_order
+    order_are z =
         built_words_lem number order_places order order' (order_with P no_order) no_order (sym sent_is ∙ z)
         (order_length P no_order ∙ length-replicate {A = ℕ} order_places 0) ft.order_full sent.order_is
 
     low : n ≡ 0 → low_enough P ≡ true
-    low z = (unless_zero 6 (low_enough P)).0 (sym sent-depth ∙ z)
+    low z = (unless_zero 6 (low_enough P)).0 (sym sent_depth ∙ z)
 
-    pub build-keeps : BuildKeeps plan out n nodes' order' out'
-    build-keeps =
+    pub build_keeps : BuildKeeps plan out n nodes' order' out'
+    build_keeps =
         record {
-          one = rw sent-depth (none_or_deep (low_enough P));
-          deep = rw sent-depth (deep-exact P);
-          stands = λ z. rw (nodes_are z, order-are z) (built-low P sound (low z));
+          one = rw sent_depth (none_or_deep (low_enough P));
+          deep = rw sent_depth (deep_exact P);
+          stands = λ z. rw (nodes_are z, order_are z) (built_low P sound (low z));
           same = λ z some.
-              rw (nodes_are z, order-are z)
+              rw (nodes_are z, order_are z)
               (record {
-                holds = built-holds P sound some;
+                holds = built_holds P sound some;
                 low = omega (arith, ltb-true (deepest P) 64 (sym (of_some P some).0 ∙ low z));
               });
           size_sent = λ z some. sent_word _ _ sent.sent (sym sent_is ∙ z) (of_some P some).1;
           none_sent = λ none.
               let made = of_none P none in
-              sent_word _ _ sent.sent (number-depth ∙ (unless_zero 6 (low_enough P)).1 made.0) made.1;
+              sent_word _ _ sent.sent (number_depth ∙ (unless_zero 6 (low_enough P)).1 made.0) made.1;
         }

@@ -28,7 +28,7 @@ use Rattle.plan_test.specs.Exact.{SoundObjects}
 use Rattle.bvh_boxes.specs.Boxes.{boxes_of}
 use Rattle.bvh_boxes.proofs.Lists.{boxes_length}
 use Rattle.bvh_rules.specs.Check.{standing_number}
-use Rattle.bvh_rules.proofs.Exact.{standing-exact}
+use Rattle.bvh_rules.proofs.Exact.{standing_exact}
 use Rattle.panel.specs.Panels.{panel_of, at_light_number, panels_number}
 use Rattle.reply.specs.declared.Reply.{Reply}
 use Rattle.reply.specs.Reply.{done_reply, refused_reply, reply_of}
@@ -46,7 +46,7 @@ use Rattle.promises.proofs.Lowest.{lower_least}
 use Rattle.promises.proofs.Cases.{either, ◌&◌}
 use Rattle.promises.proofs.Replies.{traced_number}
 use Rattle.wire.proofs.Loads.{length_words}
-use Rattle.promises.proofs.Demand3.Asked.{ask-reads}
+use Rattle.promises.proofs.Demand3.Asked.{ask_reads}
 
 -- another number than 8
 abbrev Other : ℕ → Type 0
@@ -110,17 +110,17 @@ module _ (p : Plan) where
   cuts : (os : List Piece) → Other (lowest_of piece_cuts os)
   cuts os = other_lowest piece_cuts other_cuts os
 
-  other-objects : Other (objects_number p)
+  other_objects : Other (objects_number p)
   unfolding objects_number
-  other-objects =
+  other_objects =
       let placed = (objects_tally p).placed && leb (objects_tally p).used cutter_places in
       other_cond (counts_ok p) _ _
       (other_lower _ _ (own false p.objects) (other_cond placed _ _ (cuts p.objects) other_room))
       other_room
 
-  other-solids : Other (solids_of p).number
+  other_solids : Other (solids_of p).number
   unfolding solids_of
-  other-solids =
+  other_solids =
       go (counts_ok p) _ _
       (other_lower _ _ (other_lower _ _ (own true p.planes) (own false p.objects))
       (other_cond (solids_placed p) _ _ (other_lower _ _ (cuts p.planes) (cuts p.objects)) other_room))
@@ -129,10 +129,10 @@ module _ (p : Plan) where
       go : (b : Bool) (x y : Solids) → Other x.number → Other y.number → Other (cond b x y).number
       go = other_of (λ (s : Solids). s.number)
 
-  other-lit : Other (lit_number p)
+  other_lit : Other (lit_number p)
   unfolding lit_number
-  other-lit =
-      other_cond (counts_ok p) _ _ (other_lower _ _ other-solids (other_lowest light_number other_light p.lights))
+  other_lit =
+      other_cond (counts_ok p) _ _ (other_lower _ _ other_solids (other_lowest light_number other_light p.lights))
       other_room
 
 other_panels : (q : Vec3) (ls : List QuadLight) → Other (panels_number q ls)
@@ -160,47 +160,47 @@ unfolding reply_of refused_reply
 other_reply n r p z = other_of (λ (x : Reply). x.number) (eqb n 0) r _ (λ e. omega arith) p
 
 module _ (before : ℕ) (w : List ℕ) (f : List Float) (b : Other before) (z : tree_number 1 w f ≡ 0) where
-  other-tree : (n : ℕ) → Other n → Other (lower n (tree_number 1 w f))
-  other-tree n p = other_lower n (tree_number 1 w f) p (λ e. omega arith)
+  other_tree : (n : ℕ) → Other n → Other (lower n (tree_number 1 w f))
+  other_tree n p = other_lower n (tree_number 1 w f) p (λ e. omega arith)
 
-  other-query : Other (query_reply before 1 w f).number
+  other_query : Other (query_reply before 1 w f).number
   unfolding query_reply query_number found_reply done_reply
-  other-query =
+  other_query =
       other_reply _ _
-      (other-tree _ (other_lower _ _ b (other_lower _ _ (other_unless 1 _ (omega arith)) (other-objects (plan_of w f)))))
+      (other_tree _ (other_lower _ _ b (other_lower _ _ (other_unless 1 _ (omega arith)) (other_objects (plan_of w f)))))
       refl
 
-  other-ask : (given : Bool) → Other (lower (solids_ask before given w f) (tree_number 1 w f))
+  other_ask : (given : Bool) → Other (lower (solids_ask before given w f) (tree_number 1 w f))
   unfolding solids_ask
-  other-ask given =
-      other-tree _ (other_lower _ _ b (other_lower _ _ (other_unless 1 _ (omega arith)) (other-solids (plan_of w f))))
+  other_ask given =
+      other_tree _ (other_lower _ _ b (other_lower _ _ (other_unless 1 _ (omega arith)) (other_solids (plan_of w f))))
 
-  other-lit-ask : (given : ℕ) (q : Vec3) → Other given → Other (lit_ask before given 1 q w f)
+  other_lit_ask : (given : ℕ) (q : Vec3) → Other given → Other (lit_ask before given 1 q w f)
   unfolding lit_ask
-  other-lit-ask given q g =
-      other_lower _ _ (other-tree _ (other_lower _ _ b (other_lower _ _ g (other-lit (plan_of w f))))) (other_panels q _)
+  other_lit_ask given q g =
+      other_lower _ _ (other_tree _ (other_lower _ _ b (other_lower _ _ g (other_lit (plan_of w f))))) (other_panels q _)
 
-  other-dist : Other (dist_mat_reply before 1 w f).number
+  other_dist : Other (dist_mat_reply before 1 w f).number
   unfolding dist_mat_reply found_reply done_reply
-  other-dist = other_reply _ _ (other-ask _) refl
+  other_dist = other_reply _ _ (other_ask _) refl
 
-  other-trace : Other (trace_reply before 1 w f).number
+  other_trace : Other (trace_reply before 1 w f).number
   unfolding trace_reply
-  other-trace = other_reply _ _ (other-ask _) (traced_number _)
+  other_trace = other_reply _ _ (other_ask _) (traced_number _)
 
-  other-shadow : Other (shadow_reply before 1 w f).number
+  other_shadow : Other (shadow_reply before 1 w f).number
   unfolding shadow_reply done_reply
-  other-shadow = other_reply _ _ (other-ask _) refl
+  other_shadow = other_reply _ _ (other_ask _) refl
 
-  other-direct : Other (direct_reply before 1 w f).number
+  other_direct : Other (direct_reply before 1 w f).number
   unfolding direct_reply lit_reply done_reply
-  other-direct =
+  other_direct =
       other_reply _ _
-      (other-lit-ask _ _ (other_lower _ _ (other_unless 1 _ (omega arith)) (other_material _))) refl
+      (other_lit_ask _ _ (other_lower _ _ (other_unless 1 _ (omega arith)) (other_material _))) refl
 
-  other-diffuse : Other (direct_diffuse_reply before 1 w f).number
+  other_diffuse : Other (direct_diffuse_reply before 1 w f).number
   unfolding direct_diffuse_reply lit_reply done_reply
-  other-diffuse = other_reply _ _ (other-lit-ask _ _ (other_unless 1 _ (omega arith))) refl
+  other_diffuse = other_reply _ _ (other_lit_ask _ _ (other_unless 1 _ (omega arith))) refl
 
 -- a call whose number is not 8 where the tree's is 0: each is one
 abbrev Others : Ask → Type 0
@@ -209,7 +209,7 @@ Others ask =
     → Other before → tree_number 1 w f ≡ 0 → Other (ask before 1 w f).number
 
 others : All Others tree_calls
-others = other-query & other-dist & other-trace & other-shadow & other-direct & other-diffuse & tt
+others = other_query & other_dist & other_trace & other_shadow & other_direct & other_diffuse & tt
 
 -- ---- the tree's is 0 for the objects for which it meets the rules
 tree_zero
@@ -223,8 +223,8 @@ unfolding tree_number
 tree_zero made plan nodes order need args full sound rules e =
     let few : length (boxes_of (plan_at made)) ≤ 256
     = omega (arith, boxes_length (plan_at made), sound.counts.objects) in
-    ask-reads need plan nodes order args full standing_number made sound e
-    ∙ (standing-exact (words_of_nodes nodes) (node_floats nodes) (order_words order) (boxes_of (plan_at made))
+    ask_reads need plan nodes order args full standing_number made sound e
+    ∙ (standing_exact (words_of_nodes nodes) (node_floats nodes) (order_words order) (boxes_of (plan_at made))
     (length_words nodes nodes_words) few).1 rules
 
 -- no call sends 8

@@ -16,7 +16,7 @@ use Rattle.plan.specs.Records.{word_of}
 use Rattle.bvh_rules.specs.Rules.{Tree, leaf, node, weight, place, Once}
 use Rattle.bvh_search.specs.Walk.{Walk, walk_from, more, visit}
 use Rattle.bvh_search.specs.Demand.{In}
-use Rattle.bvh_search.proofs.Steps.{at_leaf, at-node}
+use Rattle.bvh_search.proofs.Steps.{at_leaf, at_node}
 use Rattle.bvh_search.proofs.Covers.{in_split}
 use Rattle.promises.specs.Demand3.{Distinct}
 
@@ -139,8 +139,8 @@ Fresh lo hi xs = (i : ℕ) → In i xs → lo ≤ i → i < hi → ⊥
 module _ (lo hi a b c d : ℕ) (xs ys : List ℕ) (g : Sees a b xs ys)
     (p : (lo ≤ a) × (b ≤ hi)) (q : (lo ≤ c) × (d ≤ hi))
   where
-    fresh-after : Fresh lo hi xs → (b ≤ c) ⊎ (d ≤ a) → Fresh c d ys
-    fresh-after new apart i at h k =
+    fresh_after : Fresh lo hi xs → (b ≤ c) ⊎ (d ≤ a) → Fresh c d ys
+    fresh_after new apart i at h k =
         ⊎_elim (λ old. new i old (omega arith) (omega arith))
         (λ r. ⊎_elim (λ e. omega arith) (λ e. omega arith) apart)
         (g.only i at)
@@ -186,20 +186,20 @@ module _ (o : List ℕ) (w : List ℕ) (f : List Float) (p : Vec3) where
       let left = sees l s σ' d (λ i at h k. new i at h (omega arith)) in
       let right = sees r m σ' d (λ i at h k. new i at (omega arith) (omega arith)) in
       let then-r = sees r m σ-l left.distinct
-      (fresh-after s e s m m n σ.seen σ-l.seen left on-l on-r new (inl (omega arith))) in
+      (fresh_after s e s m m n σ.seen σ-l.seen left on-l on-r new (inl (omega arith))) in
       let then-l = sees l s σ-r right.distinct
-      (fresh-after s e m n s m σ.seen σ-r.seen right on-r on-l new (inr (omega arith))) in
-      at-node o w f p (λ τ. Sees s e σ.seen τ.seen) s σ b l r
+      (fresh_after s e m n s m σ.seen σ-r.seen right on-r on-l new (inr (omega arith))) in
+      at_node o w f p (λ τ. Sees s e σ.seen τ.seen) s σ b l r
       (λ _. record { distinct = d; only = λ i at. inl at })
       (sees_both s e s m m n σ.seen σ-l.seen left on-l on-r (walk r m σ-l).seen then-r)
       (sees_both s e m n s m σ.seen σ-r.seen right on-r on-l (walk l s σ-r).seen then-l)
 
   -- a walk of a tree from its first place: none of its objects is evaluated twice
-  pub evaluates-once
+  pub evaluates_once
       : (t : Tree) (bound : DistHit)
       → Once o (weight t)
       → Distinct (map (word_of o) (visit o w f p t 0 (walk_from bound)).seen)
-  evaluates-once t bound c =
+  evaluates_once t bound c =
       let σ = walk_from bound in
       let g = sees t 0 σ tt (λ i at. absurd at) in
       let under : (i : ℕ) → In i (walk t 0 σ).seen → i < weight t

@@ -13,7 +13,7 @@ use Rattle.plan.specs.Records.{word_of, float_of}
 use Rattle.bvh_boxes.specs.Boxes.{inside, box_at}
 use Rattle.bvh_rules.specs.Nodes.{node_at}
 use Rattle.bvh_rules.specs.Rules.{Tree, leaf, node, size, weight, Stands, Boxed, Once, Holds, Accepted}
-use Rattle.bvh_rules.proofs.Trees.{stands-fit}
+use Rattle.bvh_rules.proofs.Trees.{stands_fit}
 use Rattle.promises.proofs.Tables.{float_word}
 
 -- ---- nodes
@@ -57,19 +57,19 @@ Stands-same w v f g n e at s (node b l r) h p = (
 
 -- ---- the order
 module _ (o u : List ℕ) (bs : List Aabb) (n : ℕ) (places : (i : ℕ) → i < n → word_of u i ≡ word_of o i) where
-  boxed-same : (s : ℕ) (t : Tree) → s + weight t ≤ n → Boxed o bs s t → Boxed u bs s t
-  boxed-same s (leaf b c) h p = (
+  boxed_same : (s : ℕ) (t : Tree) → s + weight t ≤ n → Boxed o bs s t → Boxed u bs s t
+  boxed_same s (leaf b c) h p = (
     p.0,
     λ i l k. subst (λ (x : ℕ). T (inside (box_at bs x) b)) (sym (places i (omega arith))) (p.1 i l k),
   )
-  boxed-same s (node b l r) h p = (
+  boxed_same s (node b l r) h p = (
     p.0,
     p.1,
-    (boxed-same s l (omega arith) p.2.0, boxed-same (s + weight l) r (omega arith) p.2.1),
+    (boxed_same s l (omega arith) p.2.0, boxed_same (s + weight l) r (omega arith) p.2.1),
   )
 
-  once-same : Once o n → Once u n
-  once-same c =
+  once_same : Once o n → Once u n
+  once_same c =
       record {
         below = λ i l. rw (places i l) (c.below i l);
         apart = λ i j l h e. c.apart i j l h (sym (places i (omega arith)) ∙ e ∙ places j h);
@@ -82,7 +82,7 @@ module _ (w v o u : List ℕ) (bs : List Aabb) (t : Tree) (lw : length w ≡ nod
   where
     holds_same : Holds w (floats_of w nodes_words) o bs t → Holds v (floats_of v nodes_words) u bs t
     holds_same h =
-        let fit = stands-fit w (floats_of w nodes_words) lw 0 0 t h.stands in
+        let fit = stands_fit w (floats_of w nodes_words) lw 0 0 t h.stands in
         let all : weight t ≡ length bs = h.all in
         record {
           stands =
@@ -90,9 +90,9 @@ module _ (w v o u : List ℕ) (bs : List Aabb) (t : Tree) (lw : length w ≡ nod
               (λ a l. node_same w v (9 * size t) nodes_words a words (omega arith) (omega arith))
               0 0 t (omega arith) h.stands;
           all = all;
-          once = once-same o u bs (length bs) places h.once;
-          boxed = boxed-same o u bs (length bs) places 0 t (omega arith) h.boxed;
+          once = once_same o u bs (length bs) places h.once;
+          boxed = boxed_same o u bs (length bs) places 0 t (omega arith) h.boxed;
         }
 
-    pub accepted-same : Accepted w (floats_of w nodes_words) o bs t → Accepted v (floats_of v nodes_words) u bs t
-    accepted-same h = record { holds = holds_same h.holds; low = h.low }
+    pub accepted_same : Accepted w (floats_of w nodes_words) o bs t → Accepted v (floats_of v nodes_words) u bs t
+    accepted_same h = record { holds = holds_same h.holds; low = h.low }

@@ -5,7 +5,7 @@ use mathlib.Core.Path.{◌≡◌, sym}
 use native.Mathlib.Omega.{arith}
 use Rattle.words.specs.Lists.{list_from}
 use Rattle.refusals.specs.Refusals.{lowest_of}
-use Rattle.refusals.proofs.Lowest.{lowest_start, lowest-more}
+use Rattle.refusals.proofs.Lowest.{lowest_start, lowest_more}
 use Rattle.plan.specs.Records.{cutter_at}
 use Rattle.plan.specs.Plan.{cuts_by}
 use Rattle.record_test.specs.Numbers.{cutter_number, cuts_number}
@@ -27,7 +27,7 @@ loop-holds c =
 loop-again : tie.Need-loop-preserved invariant-loop decreases-loop
 loop-again c =
     let l = c.before.before.before in
-    (omega arith, rw (lowest-more, c.lower.ensures, c.before.cut_at.ensures, l.loop.invariant.1))
+    (omega arith, rw (lowest_more, c.lower.ensures, c.before.cut_at.ensures, l.loop.invariant.1))
 
 returns : tie.Need-returns invariant-loop decreases-loop
 unfolding cuts_number cuts_by

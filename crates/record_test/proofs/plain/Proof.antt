@@ -3,7 +3,7 @@ use mathlib.Core.Path.{sym, ap, ◌∙◌}
 use mathlib.Core.Bool.{not, false≢true}
 use Rattle.refusals.specs.Prims.{no_length}
 use Rattle.record_test.specs.Inside.Prims.{none_below}
-use Rattle.record_test.proofs.Prims.{plain-number}
+use Rattle.record_test.proofs.Prims.{plain_number}
 use borrow.Author.Rules.{rules}
 use Rattle.record_test.proofs.plain.Statement.{statement}
 use Rattle.record_test.proofs.plain.Tie as tie
@@ -19,7 +19,7 @@ returns-3 c e =
     let s = c.before in
     let b = s.before.before in
     let a = b.before.before.before in
-    plain-number _ _ _ _ (sym a.none_above.ensures ∙ b.before.before.if3.true)
+    plain_number _ _ _ _ (sym a.none_above.ensures ∙ b.before.before.if3.true)
     (sym (ap not (c.no_length.ensures ∙ ap no_length s.sub.ensures)) ∙ e) _ a.before.before.if1.false
     a.before.if2.false
     (sym (b.none_below.ensures ∙ ap (none_below _ _ _ _) b.before.least-of.ensures) ∙ s.before.if4.true)

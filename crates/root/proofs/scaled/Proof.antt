@@ -1,7 +1,7 @@
 -- `root::scaled` meets its contract. Assumes nothing.
 use lib.Bits.{and_mask}
 use Rattle.std.proofs.Common.{sym, ◌∙◌, rules}
-use Rattle.root.proofs.Core.{start-even, start-odd}
+use Rattle.root.proofs.Core.{start_even, start_odd}
 use Rattle.root.proofs.scaled.Statement.{statement}
 use Rattle.root.proofs.scaled.Tie as tie
 
@@ -9,14 +9,14 @@ returns : tie.Need-returns
 returns c =
     let e = c.before.exponent in
     let m = c.before.before.digits in
-    start-even c.before.before.before.args.b m.result e.result m.ensures e.ensures
+    start_even c.before.before.before.args.b m.result e.result m.ensures e.ensures
     (sym (and_mask e.result 1) ∙ c.if1.true)
 
 returns-2 : tie.Need-returns-2
 returns-2 c =
     let e = c.before.exponent in
     let m = c.before.before.digits in
-    start-odd c.before.before.before.args.b m.result e.result m.ensures e.ensures
+    start_odd c.before.before.before.args.b m.result e.result m.ensures e.ensures
     (λ h. c.if1.false (and_mask e.result 1 ∙ h))
 
 pub scaled_spec : {M : Type 1} → statement M

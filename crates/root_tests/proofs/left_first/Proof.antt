@@ -3,7 +3,7 @@ use mathlib.Core.Path.{sym, subst}
 use lib.Dec.{T}
 use lib.Ieee.{binary32, fits}
 use Rattle.root_tests.specs.Inside.Tests.{left_first}
-use Rattle.root_tests.proofs.Squares.{right-first, parted}
+use Rattle.root_tests.proofs.Squares.{right_first, parted}
 use borrow.Author.Rules.{rules}
 use Rattle.root_tests.proofs.left_first.Statement.{statement}
 use Rattle.root_tests.proofs.left_first.Tie as tie
@@ -18,7 +18,7 @@ held_r c = subst T (sym c.well-formed.1.0.1) tt
 returns : tie.Need-returns
 returns c = λ ea eb hl hr.
     let s = c.before in
-    right-first s.args.l s.args.r (held_l s) (held_r s) hl hr (rw (sym ea, sym eb) c.if1.true)
+    right_first s.args.l s.args.r (held_l s) (held_r s) hl hr (rw (sym ea, sym eb) c.if1.true)
 
 returns-2 : tie.Need-returns-2
 returns-2 c = λ ea eb hl hr.

@@ -8,7 +8,7 @@ use Rattle.words.specs.Lists.{list_from}
 use Rattle.plan.specs.Records.{light_in}
 use Rattle.bvh_search.specs.Field.{field_by}
 use Rattle.shade.specs.Direct.{diffuse_step, lights_by, direct_diffuse_of}
-use Rattle.shade.proofs.Lights.{lights_taken, panels_few, lit-none, lit-more, lit-fits, diffuse_most}
+use Rattle.shade.proofs.Lights.{lights_taken, panels_few, lit_none, lit_more, lit_fits, diffuse_most}
 use Rattle.shade.proofs.direct_diffuse.Statement.{statement}
 use Rattle.shade.proofs.direct_diffuse.Tie as tie
 
@@ -22,14 +22,14 @@ abbrev decreases-loop : tie.decreases-loop
 decreases-loop tree ws fs albedo s most light₀ count₀ j₀ light count j = most - j
 
 loop-holds : tie.Need-loop-init invariant-loop decreases-loop
-loop-holds c = (omega arith, lit-none _ _ _)
+loop-holds c = (omega arith, lit_none _ _ _)
 
 add-count : tie.Need-overflow-add-count invariant-loop decreases-loop
 add-count c =
     let l = c.before.before.before.before.before in
     let n = l.before.before in
     let s = c.before.before in
-    lit-fits _ _ _ l.loop.j _ s.diffuse-step.result l.loop.invariant.1
+    lit_fits _ _ _ l.loop.j _ s.diffuse-step.result l.loop.invariant.1
     (rw (s.diffuse-step.ensures, s.before.light-in.ensures)) (diffuse_most _ _ _)
     (omega (arith, panels_few n.before.before.args.ws.now, n.panels-in.ensures))
 
@@ -38,7 +38,7 @@ loop-again c =
     let s = c.before.before in
     let l = s.before.before.before.loop in (
       omega arith,
-      lit-more _ _ _ l.j _ s.diffuse-step.result l.invariant.1 (rw (s.diffuse-step.ensures, s.before.light-in.ensures)),
+      lit_more _ _ _ l.j _ s.diffuse-step.result l.invariant.1 (rw (s.diffuse-step.ensures, s.before.light-in.ensures)),
     )
 
 returns : tie.Need-returns invariant-loop decreases-loop

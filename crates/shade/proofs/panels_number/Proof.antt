@@ -6,7 +6,7 @@ use native.Mathlib.Nat.{zero-add}
 use native.Mathlib.Omega.{arith}
 use Rattle.words.specs.Lists.{list_from}
 use Rattle.refusals.specs.Refusals.{lowest_of}
-use Rattle.refusals.proofs.Lowest.{lowest_start, lowest-more}
+use Rattle.refusals.proofs.Lowest.{lowest_start, lowest_more}
 use Rattle.plan.specs.Records.{light_in}
 use Rattle.panel.specs.Panels.{at_light_number, panels_number}
 use Rattle.shade.proofs.Lights.{lights_taken}
@@ -26,7 +26,7 @@ loop-holds c = let a = c.before.args in (search rules, lowest_start (at_light_nu
 loop-again : tie.Need-loop-preserved invariant-loop decreases-loop
 loop-again c = (
   omega arith,
-  rw (lowest-more, zero-add, c.lower.ensures, c.before.at-light-number.ensures)
+  rw (lowest_more, zero-add, c.lower.ensures, c.before.at-light-number.ensures)
       (rw (c.before.before.light-in.ensures, c.before.before.before.before.loop.invariant.1)),
 )
 

@@ -7,7 +7,7 @@ use native.Mathlib.Omega.{arith}
 use Rattle.bvh_search.specs.Field.{field_by}
 use Rattle.trace.specs.declared.Passed.TheVariants.{Dark, Going}
 use Rattle.trace.specs.Shadow.{pass, cone_march, shadow_of}
-use Rattle.trace.proofs.Shadows.{cone-turn, cone-past, cone-spent}
+use Rattle.trace.proofs.Shadows.{cone_turn, cone_past, cone_spent}
 use Rattle.trace.proofs.soft_shadow.Statement.{statement}
 use Rattle.trace.proofs.soft_shadow.Tie as tie
 
@@ -29,24 +29,24 @@ unfolding pass
 returns c =
     let x = c.before.before.before.before.before.before.before in
     let l = x.before.before.before.loop in
-    cone-turn _ _ _ _ _ _ l.steps _ (omega arith) x.if1.true l.invariant.1 Dark (cc)
+    cone_turn _ _ _ _ _ _ l.steps _ (omega arith) x.if1.true l.invariant.1 Dark (cc)
 
 loop-again : tie.Need-loop-preserved invariant-loop decreases-loop
 unfolding pass
 loop-again c =
     let x = c.before.before.before.before.before.before.before.before in
     let l = x.before.before.before.loop in
-    (omega arith, cone-turn _ _ _ _ _ _ l.steps _ (omega arith) x.if1.true l.invariant.1 (Going _) (cc))
+    (omega arith, cone_turn _ _ _ _ _ _ l.steps _ (omega arith) x.if1.true l.invariant.1 (Going _) (cc))
 
 returns-2 : tie.Need-returns-2 invariant-loop decreases-loop
 returns-2 c =
     let l = c.before.before.before.before.loop in
-    c.seen.ensures ∙ cone-past _ _ _ _ _ (96 - l.steps) l.c l.steps _ c.before.if1.false l.invariant.1
+    c.seen.ensures ∙ cone_past _ _ _ _ _ (96 - l.steps) l.c l.steps _ c.before.if1.false l.invariant.1
 
 returns-3 : tie.Need-returns-3 invariant-loop decreases-loop
 returns-3 c =
     let l = c.before.before.loop in
-    c.seen2.ensures ∙ cone-spent _ _ _ _ _ l.c l.steps _ (omega arith) l.invariant.1
+    c.seen2.ensures ∙ cone_spent _ _ _ _ _ l.c l.steps _ (omega arith) l.invariant.1
 
 pub soft_shadow_spec : {M : Type 1} → statement M
 soft_shadow_spec =

@@ -7,7 +7,7 @@ use native.Mathlib.Omega.{arith}
 use Rattle.bvh_search.specs.Field.{field_by}
 use Rattle.trace.specs.declared.Step.TheVariants.{Found, Past, On}
 use Rattle.trace.specs.Trace.{follow, march, trace_of}
-use Rattle.trace.proofs.Marches.{march-turn, march-spent}
+use Rattle.trace.proofs.Marches.{march_turn, march_spent}
 use Rattle.trace.proofs.trace.Statement.{statement}
 use Rattle.trace.proofs.trace.Tie as tie
 
@@ -27,22 +27,22 @@ returns : tie.Need-returns invariant-loop decreases-loop
 unfolding follow
 returns c =
     let l = c.before.before.before.before.before.before.before.before.before.loop in
-    march-turn _ _ _ _ _ l.steps _ (omega arith) l.invariant.1 (Found _) (cc)
+    march_turn _ _ _ _ _ l.steps _ (omega arith) l.invariant.1 (Found _) (cc)
 
 returns-2 : tie.Need-returns-2 invariant-loop decreases-loop
 unfolding follow
 returns-2 c =
     let l = c.before.before.before.before.before.before.before.before.loop in
-    march-turn _ _ _ _ _ l.steps _ (omega arith) l.invariant.1 Past (cc)
+    march_turn _ _ _ _ _ l.steps _ (omega arith) l.invariant.1 Past (cc)
 
 loop-again : tie.Need-loop-preserved invariant-loop decreases-loop
 unfolding follow
 loop-again c =
     let l = c.before.before.before.before.before.before.before.before.before.loop in
-    (omega arith, march-turn _ _ _ _ _ l.steps _ (omega arith) l.invariant.1 (On _) (cc))
+    (omega arith, march_turn _ _ _ _ _ l.steps _ (omega arith) l.invariant.1 (On _) (cc))
 
 returns-3 : tie.Need-returns-3 invariant-loop decreases-loop
-returns-3 c = let l = c.before.loop in march-spent _ _ _ _ l.t l.steps _ (omega arith) l.invariant.1
+returns-3 c = let l = c.before.loop in march_spent _ _ _ _ l.t l.steps _ (omega arith) l.invariant.1
 
 pub trace_spec : {M : Type 1} → statement M
 trace_spec =

@@ -1,6 +1,6 @@
 -- `viewer_direct_diffuse` meets its contract: what is sent is the call's reply. Assumes nothing.
 use Rattle.bemitondry_light.specs.Light.{direct_diffuse_reply}
-use Rattle.viewer.proofs.Same.{diffuse-same}
+use Rattle.viewer.proofs.Same.{diffuse_same}
 use Rattle.wire_used.proofs.Loads.{zero_words, zero_floats}
 use Rattle.viewer.proofs.Lent.{ask_sent}
 use borrow.Author.Rules.{rules}
@@ -12,7 +12,7 @@ returns c =
     let s = c.before.before in
     let r = s.before.before in
     let l = r.before.before.before in
-    ask_sent direct_diffuse_reply diffuse-same 36 _ _ _ _ _ _ _ _ _ _ _ _
+    ask_sent direct_diffuse_reply diffuse_same 36 _ _ _ _ _ _ _ _ _ _ _ _
     (l.before.load-ask.ensures (zero_words 27296) (zero_floats 27296)) l.ask-before.ensures
     r.direct-diffuse.ensures s.send.ensures
 

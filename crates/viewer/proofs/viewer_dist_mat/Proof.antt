@@ -1,6 +1,6 @@
 -- `viewer_dist_mat` meets its contract: what is sent is the call's reply. Assumes nothing.
 use Rattle.bemitondry_ask.specs.Asks.{dist_mat_reply}
-use Rattle.viewer.proofs.Same.{dist-mat-same}
+use Rattle.viewer.proofs.Same.{dist_mat_same}
 use Rattle.wire_used.proofs.Loads.{zero_words, zero_floats}
 use Rattle.viewer.proofs.Lent.{ask_sent}
 use borrow.Author.Rules.{rules}
@@ -12,7 +12,7 @@ returns c =
     let s = c.before.before in
     let r = s.before.before in
     let l = r.before.before.before in
-    ask_sent dist_mat_reply dist-mat-same 12 _ _ _ _ _ _ _ _ _ _ _ _
+    ask_sent dist_mat_reply dist_mat_same 12 _ _ _ _ _ _ _ _ _ _ _ _
     (l.before.load-ask.ensures (zero_words 27296) (zero_floats 27296)) l.ask-before.ensures
     r.dist-mat.ensures s.send.ensures
 

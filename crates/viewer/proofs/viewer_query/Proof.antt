@@ -1,6 +1,6 @@
 -- `viewer_query` meets its contract: what is sent is the call's reply. Assumes nothing.
 use Rattle.bemitondry_ask.specs.Asks.{query_reply}
-use Rattle.viewer.proofs.Same.{query-same}
+use Rattle.viewer.proofs.Same.{query_same}
 use Rattle.wire_used.proofs.Loads.{zero_words, zero_floats}
 use Rattle.viewer.proofs.Lent.{ask_sent}
 use borrow.Author.Rules.{rules}
@@ -12,7 +12,7 @@ returns c =
     let s = c.before.before in
     let r = s.before.before in
     let l = r.before.before.before in
-    ask_sent query_reply query-same 20 _ _ _ _ _ _ _ _ _ _ _ _
+    ask_sent query_reply query_same 20 _ _ _ _ _ _ _ _ _ _ _ _
     (l.before.load-ask.ensures (zero_words 27296) (zero_floats 27296)) l.ask-before.ensures
     r.query.ensures s.send.ensures
 

@@ -3,7 +3,7 @@ use Rattle.plan.specs.Sections.{lights}
 use Rattle.plan.specs.Plan.{count_of}
 use Rattle.plan_write.specs.Written.{with_light_words}
 use Rattle.bemitondry_entry.specs.Entries.{light_entry}
-use Rattle.wire_entry.proofs.Leaves.{entry-sent}
+use Rattle.wire_entry.proofs.Leaves.{entry_sent}
 use borrow.Author.Rules.{rules}
 use Rattle.wire_entry.proofs.add_light.Statement.{statement}
 use Rattle.wire_entry.proofs.add_light.Tie as tie
@@ -14,7 +14,7 @@ returns c =
     let p = s.before.before.before.before in
     let a = p.before.before.before.before in
     let l = a.before.before.before in
-    entry-sent light_entry (count_of lights) (λ w f. with_light_words w) _ _ _ _ _ _ _ _ _ _ _ _
+    entry_sent light_entry (count_of lights) (λ w f. with_light_words w) _ _ _ _ _ _ _ _ _ _ _ _
     l.before.load-plan.ensures l.plan-before.ensures a.add-light.ensures p.store-plan.ensures
     s.send.ensures
 

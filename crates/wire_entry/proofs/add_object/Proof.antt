@@ -5,7 +5,7 @@ use lib.ListN.{length}
 use Rattle.plan.specs.Sections.{objects}
 use Rattle.plan.specs.Plan.{count_of}
 use Rattle.bemitondry_entry.specs.Entries.{piece_entry, piece_left}
-use Rattle.wire_entry.proofs.Leaves.{entry-sent, entry-clears}
+use Rattle.wire_entry.proofs.Leaves.{entry_sent, entry_clears}
 use borrow.Author.Rules.{rules}
 use Rattle.wire_entry.proofs.add_object.Statement.{statement}
 use Rattle.wire_entry.proofs.add_object.Tie as tie
@@ -22,15 +22,15 @@ returns c =
     let bytes = length l.before.before.before.before.before.before.before.before.before.before.args.args.now in
     record {
       piece =
-          entry-sent (λ b w f. piece_entry b false w f bytes) (count_of objects)
+          entry_sent (λ b w f. piece_entry b false w f bytes) (count_of objects)
           (piece_left false) _ _ _ _ _ _ _ _ _ _ _ _ l.before.load-plan.ensures l.tree-tables-before.ensures e
           p.store-plan.ensures s.send.ensures;
       nodes_is =
-          entry-clears (λ b w f. piece_entry b false w f bytes) (count_of objects)
+          entry_clears (λ b w f. piece_entry b false w f bytes) (count_of objects)
           (piece_left false) _ _ _ _ _ _ _ _ _ _ l.before.load-plan.ensures l.tree-tables-before.ensures e
           n.clear.ensures;
       order_is =
-          entry-clears (λ b w f. piece_entry b false w f bytes) (count_of objects)
+          entry_clears (λ b w f. piece_entry b false w f bytes) (count_of objects)
           (piece_left false) _ _ _ _ _ _ _ _ _ _ l.before.load-plan.ensures l.tree-tables-before.ensures e
           o.clear2.ensures;
     }

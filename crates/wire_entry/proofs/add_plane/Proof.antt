@@ -4,7 +4,7 @@ use lib.ListN.{length}
 use Rattle.plan.specs.Sections.{planes}
 use Rattle.plan.specs.Plan.{count_of}
 use Rattle.bemitondry_entry.specs.Entries.{piece_entry, piece_left}
-use Rattle.wire_entry.proofs.Leaves.{entry-sent}
+use Rattle.wire_entry.proofs.Leaves.{entry_sent}
 use borrow.Author.Rules.{rules}
 use Rattle.wire_entry.proofs.add_plane.Statement.{statement}
 use Rattle.wire_entry.proofs.add_plane.Tie as tie
@@ -16,7 +16,7 @@ returns c =
     let a = p.before.before.before.before in
     let l = a.before.before.before in
     let bytes = length l.before.before.before.before.before.before.before.before.args.args.now in
-    entry-sent (λ b w f. piece_entry b true w f bytes) (count_of planes) (piece_left true) _ _ _ _ _ _ _ _ _ _ _ _
+    entry_sent (λ b w f. piece_entry b true w f bytes) (count_of planes) (piece_left true) _ _ _ _ _ _ _ _ _ _ _ _
     l.before.load-plan.ensures l.plan-before.ensures a.add-piece.ensures p.store-plan.ensures
     s.send.ensures
 

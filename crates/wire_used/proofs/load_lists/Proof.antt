@@ -1,6 +1,6 @@
 -- `wire_used::load_lists` meets its contract: one list after the other. Assumes nothing.
 use native.Mathlib.Omega.{arith}
-use Rattle.wire_used.proofs.Loads.{lists-law}
+use Rattle.wire_used.proofs.Loads.{lists_law}
 use borrow.Author.Rules.{rules}
 use Rattle.wire_used.proofs.load_lists.Statement.{statement}
 use Rattle.wire_used.proofs.load_lists.Tie as tie
@@ -20,7 +20,7 @@ returns c =
     let planes = o.planes in
     let lights = o.lights in
     let objects = o.objects in
-    lists-law _ t _ _ _ _ _ _ _ _ _ _ _ _ _ _ plan_is early o n0 n1 n2
+    lists_law _ t _ _ _ _ _ _ _ _ _ _ _ _ _ _ plan_is early o n0 n1 n2
     (p1.rows.ensures (omega (arith, n0, materials))) (p2.rows2.ensures (omega (arith, n1, planes)))
     (p3.rows3.ensures (omega (arith, n2, lights))) (c.rows4.ensures (omega (arith, objects)))
 

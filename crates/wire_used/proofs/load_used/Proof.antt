@@ -1,6 +1,6 @@
 -- `wire_used::load_used` meets its contract: by what each part of the table holds. Assumes nothing.
 use native.Mathlib.Omega.{arith}
-use Rattle.wire_used.proofs.Loads.{used-law, given_up}
+use Rattle.wire_used.proofs.Loads.{used_law, given_up}
 use borrow.Author.Rules.{rules}
 use Rattle.wire_used.proofs.load_used.Statement.{statement}
 use Rattle.wire_used.proofs.load_used.Tie as tie
@@ -22,7 +22,7 @@ returns c =
     let low = i1.if1.true in
     let most = v.begins.ensures.0 in
     λ t b o few.
-    let r = used-law _ _ t _ _ _ _ _ _ _ _ _ _ led.0 _ _ _ _ b o few
+    let r = used_law _ _ t _ _ _ _ _ _ _ _ _ _ led.0 _ _ _ _ b o few
     (l.load-lists.ensures t b.plan_is b.filled o) n.word_in.ensures u.ends.ensures low
     q.ends2.ensures i2.if2.true size led.1 (p.put.ensures (omega arith) (omega (arith, size)))
     v.begins.ensures.1 (c.load-cutters.ensures low most) in

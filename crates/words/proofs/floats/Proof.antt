@@ -4,7 +4,7 @@ use Prim.Native.Nat.{◌≤◌, ◌-◌}
 use mathlib.Core.Path.{◌≡◌}
 use lib.ListN.{length, take}
 use Rattle.words.specs.Words.{float_at, floats_of}
-use Rattle.words.proofs.Runs.{fill_none, fill_more, fill-all}
+use Rattle.words.proofs.Runs.{fill_none, fill_more, fill_all}
 use Rattle.words.proofs.floats.Statement.{statement}
 use Rattle.words.proofs.floats.Tie as tie
 
@@ -21,7 +21,7 @@ loop-again : tie.Need-loop-preserved invariant-loop decreases-loop
 loop-again c = let l = c.before.before.loop in (search rules, search rules, fill_more (float_at _) l.fs l.i _ (search rules) c.Float-at.ensures l.invariant.2)
 
 returns : tie.Need-returns invariant-loop decreases-loop
-returns c = let l = c.before.loop in fill-all (float_at _) l.fs l.i _ l.invariant.1 (search rules) (search rules) l.invariant.2
+returns c = let l = c.before.loop in fill_all (float_at _) l.fs l.i _ l.invariant.1 (search rules) (search rules) l.invariant.2
 
 pub floats_spec : {M : Type 1} → statement M
 floats_spec =

@@ -5,7 +5,7 @@ use native.Mathlib.Omega.{arith}
 use borrow.Author.Rules.{rules}
 use lib.ListN.{length, take, length-set}
 use Rattle.words.specs.Words.{word_at, words_of}
-use Rattle.words.proofs.Runs.{fill_none, fill_more, fill-all, word_past}
+use Rattle.words.proofs.Runs.{fill_none, fill_more, fill_all, word_past}
 use Rattle.words.proofs.load.Statement.{statement}
 use Rattle.words.proofs.load.Tie as tie
 
@@ -50,7 +50,7 @@ loop2-again c =
     )
 
 returns : tie.Need-returns invariant-loop decreases-loop invariant-loop2 decreases-loop2
-returns c = let l = c.before.loop2 in fill-all (word_at _) l.words l.i _ (l.invariant.2 ∙ c.before.before.before.loop.invariant.2) (search rules) (search rules) l.invariant.3
+returns c = let l = c.before.loop2 in fill_all (word_at _) l.words l.i _ (l.invariant.2 ∙ c.before.before.before.loop.invariant.2) (search rules) (search rules) l.invariant.3
 
 pub load_spec : {M : Type 1} → statement M
 load_spec =
