@@ -1,5 +1,8 @@
 // Tests of the calls that ask of a loaded table: which number they get by their arguments, by the plan and by the tree.
 // `before` is a number that applies already; `ws` and `fs` are a call's table.
+
+#![tactic(auto)]
+
 ghost use Rattle.std.specs.Prelude.{◌≡◌};
 ghost use Rattle.ask_test.specs.Numbers.{tree_number, query_number, solids_ask, ray_ok};
 

@@ -1,5 +1,8 @@
 // The public calls that ask of a loaded table, by the tree or by the list: nearest pieces, and marches. `before` is a
 // number that applies already; `ws` and `fs` are a call's table.
+
+#![tactic(auto)]
+
 ghost use Rattle.std.specs.Prelude.{◌≡◌};
 ghost use Rattle.bemitondry_ask.specs.Asks.{found_reply, query_reply, dist_mat_reply};
 ghost use Rattle.bemitondry_ask.specs.Marches.{traced_reply, trace_reply, shadow_reply};

@@ -1,5 +1,8 @@
 // The public call on light records lent as bytes, fifteen words each: the panel that a ray meets first. `before` is a
 // number that applies already.
+
+#![tactic(auto)]
+
 ghost use Rattle.std.specs.Prelude.{◌≡◌, ◌+◌, ◌*◌, length};
 ghost use Rattle.words.specs.Lists.{list_from};
 ghost use Rattle.refusals.specs.Refusals.{lowest_of};

@@ -1,5 +1,8 @@
 // The public calls that enter a record or a piece into a loaded table. `before` is a number that applies already; `ws`
 // and `fs` are a call's table.
+
+#![tactic(auto)]
+
 ghost use Rattle.std.specs.Prelude.{◌≡◌};
 ghost use Rattle.bemitondry_entry.specs.Inside.Enters.{added_reply, MaterialEnters, LightEnters, PieceEnters};
 

@@ -1,5 +1,8 @@
 // The public calls of direct light on a loaded table, by the tree or by the list. `before` is a number that applies
 // already; `ws` and `fs` are a call's table.
+
+#![tactic(auto)]
+
 ghost use Rattle.std.specs.Prelude.{◌≡◌};
 ghost use Rattle.bemitondry_light.specs.Light.{site_ok, lit_ask, lit_reply, direct_reply, direct_diffuse_reply};
 

@@ -1,5 +1,8 @@
 // The public calls that make a tree of a loaded table stand. `before` is a number that applies already; `ws` and `fs`
 // are a call's table.
+
+#![tactic(auto)]
+
 ghost use Rattle.std.specs.Prelude.{◌≡◌, cond, length, replicate};
 ghost use Rattle.words.specs.Lists.{list_from};
 ghost use Rattle.plan.specs.Plan.{plan_of};

@@ -1,5 +1,8 @@
 // The public calls on single values: each tests what it is given, and replies. `before` is a number that applies
 // already.
+
+#![tactic(auto)]
+
 ghost use Rattle.std.specs.Prelude.{◌≡◌};
 ghost use Rattle.refusals.specs.Prims.{shape_of};
 ghost use Rattle.bemitondry_values.specs.Values.{float_reply, box_reply, root_reply, acos_reply, prim_dist_reply};

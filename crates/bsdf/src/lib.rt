@@ -1,4 +1,7 @@
 // How a surface sends light back: Fresnel by Schlick, the GGX lobe and its visibility, and a material's two shares.
+
+#![tactic(auto)]
+
 ghost use Rattle.std.specs.Prelude.{◌≡◌};
 ghost use Rattle.bsdf.specs.Bsdf.{fresnel_of, d_ggx_of, smith_part, v_smith_of, f0_of, diffuse_albedo_of};
 

@@ -1,4 +1,7 @@
 // The bins of a node's range, and the split of least cost between them.
+
+#![tactic(auto)]
+
 ghost use Rattle.std.specs.Prelude.{◌≡◌, ◌/◌, length, set, replicate, slice_index, slice_set};
 ghost use Rattle.words.specs.Lists.{list_from};
 ghost use Rattle.bvh_boxes.specs.Boxes.{nowhere, merge, box_at};

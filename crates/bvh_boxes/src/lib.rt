@@ -1,4 +1,7 @@
 // Boxes in order, and the boxes of a plan's objects.
+
+#![tactic(auto)]
+
 ghost use Rattle.std.specs.Prelude.{◌≡◌};
 ghost use Rattle.plan.specs.Plan.{plan_of};
 ghost use Rattle.bvh_boxes.specs.Boxes.{finite_box, all_at_most, inside, nowhere, merge, no_box, box_at, boxes_of};

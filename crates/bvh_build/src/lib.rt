@@ -1,5 +1,8 @@
 // The source's `build_recursive` over lent tables: the nodes, the order cut in two parts at each call, and a table of
 // the objects' boxes.
+
+#![tactic(auto)]
+
 ghost use Rattle.std.specs.Prelude.{◌≡◌, ◌-◌, ◌*◌, ◌<◌, ◌≤◌, length, replicate};
 ghost use Rattle.words.specs.Lists.{list_from};
 ghost use Rattle.plan.specs.Plan.{plan_of};

@@ -1,4 +1,7 @@
 // The checker of document 01's tree rules, over the tree in a call's table.
+
+#![tactic(auto)]
+
 ghost use Rattle.std.specs.Prelude.{◌≡◌, ◌-◌, length};
 ghost use Rattle.plan.specs.Plan.{plan_of};
 ghost use Rattle.bvh_boxes.specs.Boxes.{boxes_of};

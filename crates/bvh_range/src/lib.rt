@@ -1,4 +1,7 @@
 // A range of objects over a table of their boxes: the box around it, the box of its centres, and whether it is a leaf.
+
+#![tactic(auto)]
+
 ghost use Rattle.std.specs.Prelude.{◌≡◌, get_or};
 ghost use Rattle.scalar.specs.F32.{f0};
 ghost use Rattle.vec.specs.Vec.{vmin, vmax};

@@ -1,4 +1,7 @@
 // The box of an object from the words of its row: made of numbers alone, with no shape between.
+
+#![tactic(auto)]
+
 ghost use Rattle.std.specs.Prelude.{◌≡◌};
 ghost use Rattle.sdf.specs.Boxes.{spread, around, widened, box_of};
 ghost use Rattle.refusals.specs.Prims.{shape_of};

@@ -1,4 +1,7 @@
 // The tree of boxes in a call's table: its nodes and its order, as document 01's tree rules speak of them.
+
+#![tactic(auto)]
+
 ghost use Rattle.std.specs.Prelude.{◌≡◌};
 ghost use Rattle.plan.specs.Sections.{objects};
 ghost use Rattle.plan.specs.Records.{word_of};

@@ -1,5 +1,8 @@
 // The search of a tree for the nearest object: a stack of 64 places, each box worked out once and held as a square, so
 // that few roots are taken; and a plan's field by the tree or by the list.
+
+#![tactic(auto)]
+
 ghost use Rattle.std.specs.Prelude.{◌≡◌, ◌+◌, ◌-◌, T, [], ◌∷◌, length, slice_index, slice_index_or, slice_set};
 ghost use Rattle.std.specs.Float.{binary32, nan};
 ghost use Rattle.std.specs.Float.Ieee.{fits};

@@ -1,4 +1,7 @@
 // One node of the builder, cut in two: its range parted by the split of least cost.
+
+#![tactic(auto)]
+
 ghost use Rattle.std.specs.Prelude.{◌≡◌, ℕ, ◌≤◌, ◌<◌, cond, ltb, length, get_or};
 ghost use Rattle.bvh_boxes.specs.Boxes.{box_at};
 ghost use Rattle.bvh_range.specs.Inside.Table.{table_boxes};

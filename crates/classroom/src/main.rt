@@ -1,5 +1,8 @@
 // A classroom as a planner sees it: the room, the light on its desks, a cabinet that comes late, and a plan whose tree
 // is refused.
+
+#![tactic(auto)]
+
 mod deep;
 mod picture;
 mod pieces;

@@ -1,4 +1,7 @@
 // The panel that a ray meets first on its emitting side.
+
+#![tactic(auto)]
+
 ghost use Rattle.std.specs.Prelude.{◌≡◌};
 ghost use Rattle.emitter.specs.Emitter.{nearer_than, shows_of, emitter_step};
 

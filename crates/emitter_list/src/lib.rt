@@ -1,4 +1,7 @@
 // A ray against the caller's list of panels. Functions that take the slice are proved by a walk by hand.
+
+#![tactic(auto)]
+
 ghost use Rattle.std.specs.Prelude.{◌≡◌};
 ghost use Rattle.refusals.specs.Refusals.{lower, lowest_of};
 ghost use Rattle.record_test.specs.Numbers.{light_number};

@@ -1,5 +1,8 @@
 // Document 01's rows R1 to R4 and their neighbours, on plans that are made by entries: which trees are built, which is
 // too deep, and what a full plan refuses.
+
+#![tactic(auto)]
+
 mod powers;
 
 fn say(what: &[u8], n: u32) {

@@ -1,4 +1,7 @@
 // The specular part of a panel's light: a lobe about a representative point.
+
+#![tactic(auto)]
+
 ghost use Rattle.std.specs.Prelude.{◌≡◌};
 ghost use Rattle.lobe.specs.Lobe.{view_of, mirror_of, toward_of, rep_of, wide_of, lobe_of, gloss_of};
 

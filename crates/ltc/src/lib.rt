@@ -1,5 +1,8 @@
 // A quad's share of the cosine-weighted hemisphere, in closed form: the quad is seen from a point, cut at the horizon,
 // and its edges' angles are summed.
+
+#![tactic(auto)]
+
 ghost use Rattle.std.specs.Prelude.{◌≡◌, [], ◌∷◌, ◌++◌, take};
 ghost use Rattle.ltc.specs.Frame.{side_of, frame_of, local_of, to_local_of};
 ghost use Rattle.ltc.specs.FormFactor.{crossing_of, clip_edge, clip_of, on_sphere, edge_sum, ring_of};

@@ -1,4 +1,7 @@
 // A light as shading uses it: its corners with their centre and normal, which way it faces, how large it is.
+
+#![tactic(auto)]
+
 ghost use Rattle.std.specs.Prelude.{◌≡◌};
 ghost use Rattle.panel.specs.Panels.{panel_of, culled_of, radius_of, at_light_number};
 

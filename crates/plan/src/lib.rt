@@ -1,4 +1,7 @@
 // The plan: rows of sixteen words, each held as a whole number and as a float at the same place; its records.
+
+#![tactic(auto)]
+
 ghost use Rattle.std.specs.Prelude.{◌≡◌, ◌+◌, ◌*◌};
 ghost use Rattle.plan.specs.Records.{word_of, float_of, vec_of, no_vec, material_at, light_at};
 ghost use Rattle.plan.specs.Inside.None.{no_shape, no_head};

@@ -1,5 +1,8 @@
 // Entries: a material, a plane, an object or a light that stands in a table's arguments is tested and written into its
 // plan, or nothing changes.
+
+#![tactic(auto)]
+
 ghost use Rattle.std.specs.Prelude.{◌≡◌, ◌+◌, ◌&&◌, leb, ltb};
 ghost use Rattle.plan.specs.Sections.{cutter_places};
 ghost use Rattle.plan_write.specs.Written.{section_of};

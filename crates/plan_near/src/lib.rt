@@ -1,5 +1,8 @@
 // The nearest of a plan's pieces: each distance is worked out as far as it matters, by its kind, straight from the
 // words of its row.
+
+#![tactic(auto)]
+
 ghost use Rattle.std.specs.Prelude.{◌≡◌, cond, T, ◌+◌, ◌*◌, ◌<◌, ◌≤◌};
 ghost use Rattle.std.specs.Float.Ieee.{neg, lt};
 ghost use Rattle.float_order.specs.Inside.Order.{number};

@@ -1,4 +1,7 @@
 // Tests of a plan: which number it gets for the sections that a call reads.
+
+#![tactic(auto)]
+
 ghost use Rattle.std.specs.Prelude.{◌≡◌, true, false, cond, ◌&&◌, ◌+◌, leb, eqb};
 ghost use Rattle.words.specs.Lists.{list_from};
 ghost use Rattle.refusals.specs.Refusals.{lowest_of, no_room};

@@ -1,5 +1,8 @@
 // What entries write: a record that stands in a table's arguments becomes a row of its plan, its cutters rows after
 // those that are there, and its list has one more.
+
+#![tactic(auto)]
+
 ghost use Rattle.std.specs.Prelude.{◌≡◌, ◌+◌};
 ghost use Rattle.plan.specs.Sections.{materials, lights, args_row};
 ghost use Rattle.plan.specs.Plan.{count_of};

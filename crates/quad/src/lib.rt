@@ -1,4 +1,7 @@
 // Four corners in space: a panel's centre, normal and area, where a ray meets it, and its point nearest to another.
+
+#![tactic(auto)]
+
 ghost use Rattle.std.specs.Prelude.{◌≡◌};
 ghost use Rattle.quad.specs.Quad.{spanned, center_of, normal_of, area_of};
 ghost use Rattle.quad.specs.Meets.{within_edge, inside_of, ahead_of, intersect_of, closest_of};

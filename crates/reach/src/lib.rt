@@ -1,4 +1,7 @@
 // Whether a panel reaches a point of a surface: its share of the hemisphere, and what one shadow leaves of it.
+
+#![tactic(auto)]
+
 ghost use Rattle.std.specs.Prelude.{◌≡◌};
 ghost use Rattle.bvh_search.specs.Field.{field_by};
 ghost use Rattle.reach.specs.Reach.{site_of, shadow_at, sight_of, reach_of};

@@ -1,5 +1,8 @@
 // Tests of single records: which number a material, a light, a cutter or a piece's own words get wherever they are
 // given.
+
+#![tactic(auto)]
+
 ghost use Rattle.std.specs.Prelude.{◌≡◌, true, not, ◌&&◌, ◌+◌, ◌<◌};
 ghost use Rattle.std.specs.Bool.{beq};
 ghost use Rattle.scalar.specs.Ranges.{magnitude};

@@ -1,4 +1,7 @@
 // What is refused: ranges, kinds and extents, and that the lowest number wins.
+
+#![tactic(auto)]
+
 ghost use Rattle.std.specs.Prelude.{◌≡◌, ◌&&◌};
 ghost use Rattle.refusals.specs.Refusals.{lower, unless};
 ghost use Rattle.refusals.specs.Ranges.{up_to, within, within_up_to, coordinates, radius};

@@ -1,6 +1,9 @@
 // Replays stored answers of the Rust: records of 32 words from standard input, each a call, its number, fourteen words
 // of arguments and the sixteen words that it must send. oracle/README.md says how they were made.
 
+#![tactic(auto)]
+
+
 // Floats compare by value: both zeros are one.
 fn same_word(a: u32, b: u32) -> bool {
     if a % 0x8000_0000 == 0 {

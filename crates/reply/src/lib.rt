@@ -1,4 +1,7 @@
 // What every call replies: document 01's number, and sixteen words.
+
+#![tactic(auto)]
+
 ghost use Rattle.std.specs.Prelude.{◌≡◌};
 ghost use Rattle.reply.specs.Reply.{refused_reply, done_reply};
 

@@ -1,17 +1,17 @@
 -- The root of x is at least b exactly where x is at least `bar b`, the square of the midpoint of b and the f32 just
 -- below, worked out in f64, which holds it. So a search may compare squares of distances and take no root. Assumes
 -- nothing.
-use Rattle.std.proofs.Common.{◌≡◌, ℕ, zero, suc, ◌+◌, ◌-◌, ◌*◌, ◌/◌, ◌%◌, ◌^◌, ◌<◌, ◌≤◌, Bool, true, false, cond, T, ℤ, pos, negsuc, sym, refl, ap, ◌∙◌, subst, le_trans, le_of_eq, lt_of_lt_of_le, mul-le-mul_right, zero-lt-suc, mul_assoc, mul_comm, add-mul, mul-le-mul, mul-pos, zero-mul, mul-one, le_of_mul-le-mul_right, mul_left_comm, arith, lit<, lit≤, lt→ltb, pow_pos, pow_mono, pow-add, shl_lt}
+use Rattle.std.proofs.Common.{◌≡◌, ℕ, zero, suc, ◌+◌, ◌-◌, ◌*◌, ◌/◌, ◌^◌, ◌<◌, ◌≤◌, Bool, true, false, cond, T, pos, negsuc, sym, refl, ap, ◌∙◌, subst, le_trans, le_of_eq, lt_of_lt_of_le, mul-le-mul_right, zero-lt-suc, mul_assoc, mul_comm, add-mul, mul-le-mul, mul-pos, zero-mul, mul-one, le_of_mul-le-mul_right, mul_left_comm, arith, lit<, lit≤, lt→ltb, pow_pos, pow_mono, pow-add, shl_lt}
 use native.Mathlib.Nat.{mul-mul-mul_comm}
 use native.Mathlib.Nat.{zero-div}
-use lib.Ieee.{Float, nan, inf, fin, Format, binary32, binary64, up, down, round, add, mul, of_bits, to_bits, le, lt}
+use lib.Ieee.{Float, nan, inf, fin, Format, binary32, binary64, up, down, round, add, mul, to_bits, le, lt}
 use lib.Ieee.Exact.{HasValue, round_exact}
 use lib.Ieee.Fits.{up_pos, down_pos}
 use lib.Ieee.Order.{le_of_values}
 use lib.Ieee.Scale.{round_same}
 use Rattle.root.specs.Root.{units, plain, val, mid, root_of}
 use Rattle.root.specs.Inside.Bar.{below, middle, bar, bar_of}
-use Rattle.root.proofs.Patterns.{mid_short, Reached}
+use Rattle.root.proofs.Patterns.{mid_short}
 use Rattle.root.proofs.Laws.{bits_value, plain_bits, plain_small, root_plain}
 use Rattle.root.proofs.Order.{plain_value, le→fractions, units→le, root_reaches}
 

@@ -1,6 +1,6 @@
 -- The arithmetic of `root_bits`: where n * 2 ^ 151 is N * 4 ^ j the root of n units is half the root of N, times 2 ^ j
 -- units, so that half the root of N, rounded, gives its bits. Assumes nothing.
-use Rattle.std.proofs.Common.{◌≡◌, ℕ, zero, suc, ◌+◌, ◌-◌, ◌*◌, ◌/◌, ◌%◌, ◌^◌, ◌<◌, ◌≤◌, leb, sym, refl, ap, ◌∙◌, subst, inl, inr, le_trans, le_of_eq, le_refl, lt_of_lt_of_le, lt_of_le_of_lt, le_of_lt, add-le-add, mul-le-mul_right, mod-eq_of_lt, mul_assoc, mul-le-mul, eq-or-lt_of_le, mul-lt-mul_of_pos_right, zero-mul, mul-one, not-le_of_lt, arith, lit<, lit≤, leb→le, pow_pos, pow_mono, pow-add}
+use Rattle.std.proofs.Common.{◌≡◌, ℕ, zero, suc, ◌+◌, ◌-◌, ◌*◌, ◌/◌, ◌%◌, ◌^◌, ◌<◌, ◌≤◌, sym, refl, ap, ◌∙◌, subst, inl, inr, le_trans, le_of_eq, le_refl, lt_of_lt_of_le, lt_of_le_of_lt, le_of_lt, add-le-add, mul-le-mul_right, mod-eq_of_lt, mul_assoc, mul-le-mul, eq-or-lt_of_le, mul-lt-mul_of_pos_right, zero-mul, mul-one, not-le_of_lt, arith, lit<, lit≤, leb→le, pow_pos, pow_mono, pow-add}
 use native.Mathlib.Nat.{pow-succ'}
 use native.Mathlib.Nat.{mul-mul-mul_comm}
 use Rattle.root.specs.Root.{fields, val, mid, root_bits}

@@ -1,14 +1,14 @@
 -- What `rootOf` gives is the root: nearer to √x than every other f32 is. No other f32 is. And it grows with x. Assumes
 -- nothing.
-use Rattle.std.proofs.Common.{◌≡◌, ℕ, zero, suc, ◌+◌, ◌-◌, ◌*◌, ◌/◌, ◌%◌, ◌^◌, ◌<◌, ◌≤◌, Bool, true, false, cond, not, T, eqb, ltb, leb, ℤ, pos, negsuc, sym, refl, ap, ◌∙◌, subst, le_trans, lt_trans, le_of_eq, lt_of_lt_of_le, lt_irrefl, mod-eq_of_lt, add_comm, le_antisymm, lt_of_not-le, zero-mul, mul-one, not-le_of_lt, mul-div_cancel, arith, le→leb, eqb→eq, ltb→lt, leb→le, nltb→le, pow_pos}
+use Rattle.std.proofs.Common.{◌≡◌, ℕ, zero, suc, ◌+◌, ◌-◌, ◌*◌, ◌/◌, ◌%◌, ◌^◌, ◌<◌, ◌≤◌, Bool, true, false, cond, not, T, eqb, ltb, leb, ℤ, pos, negsuc, sym, refl, ap, ◌∙◌, subst, lt_trans, lt_irrefl, mod-eq_of_lt, add_comm, le_antisymm, lt_of_not-le, zero-mul, mul-one, not-le_of_lt, mul-div_cancel, arith, le→leb, eqb→eq, ltb→lt, leb→le, nltb→le, pow_pos}
 use native.Mathlib.Nat.{zero-div, pow-succ'}
-use lib.Dec.{nleb→lt, not_T}
+use lib.Dec.{not_T}
 use lib.Ieee.{Float, nan, inf, fin, binary32, up, down, odd, of_fields, of_bits, to_bits, fits, size}
 use lib.Ieee.Bits.{is_false, is_true, cond_no, of_bits-to_bits, of_bits-fits, to_bits-lt}
 use lib.Ieee.Exact.{HasValue, odd_sign}
 use lib.Ieee.Fits.{down_pos}
-use Rattle.root.specs.Root.{units, plain, IsRoot, fields, val, mid, root_bits, root_of}
-use Rattle.root.proofs.Patterns.{val_mono, val_lt, lt_of_val, Found, root_found, root_small, root_mono}
+use Rattle.root.specs.Root.{units, plain, IsRoot, fields, val, root_bits, root_of}
+use Rattle.root.proofs.Patterns.{lt_of_val, root_found, root_small}
 use Rattle.root.proofs.Patterns.{nearer_above, nearer_below, val_small}
 
 -- ---- patterns and values

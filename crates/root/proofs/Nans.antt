@@ -1,8 +1,7 @@
 -- NaN patterns and NaN tests at binary32: which words are a NaN's, and that only a NaN differs from itself. By the
 -- cases of a value. Assumes nothing.
-use Rattle.std.proofs.Common.{◌≡◌, ℕ, ◌%◌, ◌<◌, ◌≤◌, Bool, true, false, not, T, ltb, sym, refl, ap, ◌∙◌, subst, le-ltb, lt-ltb}
-use lib.Ieee as Ieee
-use lib.Ieee.{Float, binary32, nan, inf, fin, is_nan, nan_bits, of_bits, to_bits, div, eq, ne}
+use Rattle.std.proofs.Common.{◌≡◌, ℕ, ◌%◌, ◌<◌, ◌≤◌, Bool, true, false, not, T, sym, refl, ◌∙◌, subst, le-ltb, lt-ltb}
+use lib.Ieee.{Float, binary32, nan, inf, fin, is_nan, nan_bits, of_bits, div, eq, ne}
 use lib.Ieee.Bits.{nan_bits_is, nan_bits_above}
 use lib.Ieee.Compare.{differs_from_itself}
 

@@ -1,14 +1,14 @@
 -- The root grows with x, and it is at least b exactly where x is at least the square of the midpoint of b and the f32
 -- just below, which an f64 holds. Assumes nothing.
-use Rattle.std.proofs.Common.{◌≡◌, ℕ, zero, suc, ◌+◌, ◌-◌, ◌*◌, ◌/◌, ◌%◌, ◌^◌, ◌<◌, ◌≤◌, Bool, true, false, cond, not, ◌&&◌, ◌||◌, T, eqb, ltb, ◌⊎◌, ℤ, pos, negsuc, sym, refl, ap, ◌∙◌, subst, inl, inr, le_trans, le_of_eq, le_refl, le_of_lt, mul-le-mul_right, zero-mul, not-le_of_lt, le_of_mul-le-mul_right, arith, eqb→eq, ltb→lt, pow_pos, pow-add}
-use lib.Ieee.{Float, nan, inf, fin, binary32, up, down, of_bits, to_bits, fits, le, lt}
+use Rattle.std.proofs.Common.{ℕ, ◌*◌, ◌^◌, ◌<◌, ◌≤◌, Bool, true, false, ◌&&◌, ◌||◌, T, eqb, ltb, ◌⊎◌, sym, subst, inl, inr, le_trans, le_of_eq, le_of_lt, mul-le-mul_right, le_of_mul-le-mul_right, eqb→eq, ltb→lt, pow_pos}
+use lib.Ieee.{Float, nan, inf, fin, binary32, up, down, to_bits, le}
 use lib.Ieee.Exact.{HasValue}
-use lib.Ieee.Fits.{down_pos, up_pos, and_l, and_r}
+use lib.Ieee.Fits.{down_pos, and_l}
 use lib.Ieee.Order.{transfer, le_of_values}
-use Rattle.root.specs.Root.{units, plain, val, mid, root_bits, root_of}
-use Rattle.root.proofs.Patterns.{val_mono, root_mono, root_small, le_of_val, reached_iff, Reached, val_small}
+use Rattle.root.specs.Root.{units, plain, val, root_bits, root_of}
+use Rattle.root.proofs.Patterns.{val_mono, root_mono, le_of_val, reached_iff, Reached}
 use Rattle.root.proofs.Laws.{bits_value, plain_bits, plain_small, plain_units, plain_under, root_plain}
-use Rattle.root.proofs.Laws.{root_units, root_opened}
+use Rattle.root.proofs.Laws.{root_units}
 
 -- ---- the order of the values is that of their units
 pub plain_value : (x : Float) → T (plain x) → HasValue x false (units x) (2 ^ 149)

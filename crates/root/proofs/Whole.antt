@@ -1,14 +1,13 @@
 -- The cases of `root`: which values pass its two tests, and what `rootOf` is at each. Assumes nothing.
-use Rattle.std.proofs.Common.{◌≡◌, ℕ, zero, suc, ◌-◌, ◌*◌, ◌/◌, ◌%◌, ◌^◌, ◌<◌, ◌≤◌, Bool, true, false, cond, not, ◌&&◌, ◌||◌, T, eqb, ltb, ◌⊎◌, ℤ, pos, negsuc, sym, refl, ap, ◌∙◌, subst, inl, inr, true≢false, le_refl, le_of_lt, zero-lt-suc, eq-zero-or-pos, mul-pos, zero-mul, not-le_of_lt, arith, lit<, eqb→eq, ltb→lt, lt→ltb}
-use native.Mathlib.Nat.{zero-div}
+use Rattle.std.proofs.Common.{◌≡◌, ℕ, zero, suc, ◌-◌, ◌*◌, ◌%◌, ◌<◌, ◌≤◌, Bool, true, false, cond, not, ◌&&◌, ◌||◌, T, eqb, ltb, pos, negsuc, sym, refl, ap, ◌∙◌, subst, inl, inr, true≢false, le_refl, le_of_lt, zero-lt-suc, eq-zero-or-pos, mul-pos, zero-mul, not-le_of_lt, arith, lit<, eqb→eq, ltb→lt, lt→ltb}
 use mathlib.Core.Bool.{beq, false≢true}
-use lib.Dec.{eqb_refl, not_T}
-use lib.Ieee.{Float, nan, inf, fin, binary32, binary64, up, down, add, mul, div, lt, eq, le, of_bits, to_bits, fits}
+use lib.Dec.{not_T}
+use lib.Ieee.{Float, nan, inf, fin, binary32, binary64, up, down, add, mul, lt, eq, le, of_bits, to_bits, fits}
 use lib.Ieee.{is_nan, nan_bits}
 use lib.Ieee.Bits.{nan_bits_above, of_bits-to_bits}
-use lib.Ieee.Fits.{up_pos, down_pos, and_i, and_l, fits_widens}
+use lib.Ieee.Fits.{up_pos, and_i, and_l, fits_widens}
 use Rattle.root.specs.Inside.Bar.{below, bar, bar_of}
-use Rattle.root.specs.Root.{units, plain, val, root_bits, root_of}
+use Rattle.root.specs.Root.{plain, val, root_bits, root_of}
 use Rattle.root.proofs.Nans.{unequal_nan}
 use Rattle.root.proofs.Laws.{plain_units, plain_small, root_opened}
 

@@ -1,4 +1,7 @@
 // The square root of an f32, correctly rounded, worked out from its bits.
+
+#![tactic(auto)]
+
 ghost use Rattle.std.specs.Prelude.{◌≡◌, ℕ, ◌+◌, ◌*◌, ◌/◌, ◌%◌, ◌<◌};
 ghost use Rattle.root.specs.Root.{val, root_bits, root_of};
 ghost use Rattle.std.specs.Float.Ieee.{le};

@@ -1,4 +1,7 @@
 // Tests of roots that take none, or few: a root against a bound, two roots, a root against a guess.
+
+#![tactic(auto)]
+
 ghost use Rattle.std.specs.Prelude.{◌≡◌, true, T};
 ghost use Rattle.std.specs.Float.{binary32};
 ghost use Rattle.std.specs.Float.Ieee.{fits, le};

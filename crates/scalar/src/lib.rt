@@ -1,4 +1,7 @@
 // Numbers as document 01 has them: greater, lesser, clamped, magnitude, sign, bits, ranges, and the arc cosine.
+
+#![tactic(auto)]
+
 ghost use Rattle.std.specs.Prelude.{◌≡◌};
 ghost use Rattle.std.specs.Float.{binary32};
 ghost use Rattle.std.specs.Float.Ieee.{of_bits, to_bits};

@@ -1,4 +1,7 @@
 // Signed distances and boxes of the seven shapes, line for line as the source's sdf.rs has them.
+
+#![tactic(auto)]
+
 ghost use Rattle.std.specs.Prelude.{◌≡◌};
 ghost use Rattle.sdf.specs.Shapes.{sphere, round_box, plane, capsule, torus, beyond, cylinder_square, cylinder_body};
 ghost use Rattle.sdf.specs.Shapes.{cylinder, cone_end, cone_foot, cone_sign, cone_at, cone_body, cone, dist_of};

@@ -1,5 +1,8 @@
 // Cylinders and cones as far as they matter to a search: the distance, or the bound t where the distance is no less,
 // told with as few roots as it can be. A guess is tested, and nothing rests on which it is but time.
+
+#![tactic(auto)]
+
 ghost use Rattle.std.specs.Prelude.{◌≡◌, true, T};
 ghost use Rattle.std.specs.Float.Ieee.{lt, le};
 ghost use Rattle.std.specs.Float.Ieee.Scale.{finite};

@@ -1,5 +1,8 @@
 // Distances as far as they matter to a search: a shape's distance, or the bound t where the distance is no less, which
 // is told with no root wherever it can be. A guess w is tested, and nothing rests on which w it is but time.
+
+#![tactic(auto)]
+
 ghost use Rattle.std.specs.Prelude.{◌≡◌};
 ghost use Rattle.root.specs.Root.{root_of};
 ghost use Rattle.scalar.specs.F32.{◌⊕◌, ◌⊖◌, ◌⊗◌, f0};

@@ -1,4 +1,7 @@
 // Direct light from a plan's panels at a point of a surface: the exact diffuse part, and a lobe.
+
+#![tactic(auto)]
+
 ghost use Rattle.std.specs.Prelude.{◌≡◌, take};
 ghost use Rattle.plan.specs.Sections.{lights};
 ghost use Rattle.plan.specs.Plan.{plan_of};

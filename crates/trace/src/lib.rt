@@ -1,4 +1,7 @@
 // Marches through a plan's field, by the tree or by the list: to what a ray meets, and to how much of a light is seen.
+
+#![tactic(auto)]
+
 ghost use Rattle.std.specs.Prelude.{◌≡◌, true};
 ghost use Rattle.root.specs.Root.{root_of};
 ghost use Rattle.scalar.specs.F32.{◌⊗◌, ◌⊘◌};

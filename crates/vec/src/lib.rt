@@ -1,4 +1,7 @@
 // Three f32 by value, with the operations of glam that the source uses.
+
+#![tactic(auto)]
+
 ghost use Rattle.std.specs.Prelude.{◌≡◌};
 ghost use Rattle.std.specs.Float.Ieee.{neg};
 ghost use Rattle.vec.specs.Vec.{vsplat, vadd, vsub, vmul, vscale, vover, vneg, vdot, vcross, vlength, vnormalize};

@@ -1,5 +1,8 @@
 // The calls that the Rust viewer makes, on bytes: what is lent is loaded, the call made, and its reply sent. Those that
 // write tables stand whole in wire_entry and wire_tree; the library exports only what stands here.
+
+#![tactic(auto)]
+
 ghost use Rattle.std.specs.Prelude.{◌≡◌, length};
 ghost use Rattle.wire.specs.Sent.{Sent};
 ghost use Rattle.bemitondry_ask.specs.Asks.{query_reply, dist_mat_reply};

@@ -1,5 +1,8 @@
 // The boundary's tables: how what is lent is loaded into one table of words and floats, and how it is stored and a
 // reply sent.
+
+#![tactic(auto)]
+
 ghost use Rattle.std.specs.Prelude.{◌≡◌, []};
 ghost use Rattle.plan.specs.Plan.{seen};
 ghost use Rattle.wire.specs.Lent.{lent_of, used_of, given_float, given_vec, table_of};

@@ -1,4 +1,7 @@
 // Entries on bytes: what is lent is loaded, the entry made, and what it leaves stored and sent.
+
+#![tactic(auto)]
+
 ghost use Rattle.wire_entry.specs.Entries.{MaterialSent, LightSent, PlaneSent, ObjectSent};
 
 pub fn add_material(plan: &mut [u8], args: &[u8], out: &mut [u8]) -> u32

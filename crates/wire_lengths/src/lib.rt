@@ -1,4 +1,7 @@
 // What applies by the lengths of the tables that are lent, before a word of them is judged.
+
+#![tactic(auto)]
+
 ghost use Rattle.std.specs.Prelude.{◌≡◌};
 ghost use Rattle.wire_lengths.specs.Lengths.{short_number, args_before, plan_before, tables_before, tree_tables_before};
 ghost use Rattle.wire_lengths.specs.Lengths.{tree_before, ask_before};

@@ -1,4 +1,7 @@
 // Builds and offers on bytes: what is lent is loaded, the tree built or judged, and what is left stored and sent.
+
+#![tactic(auto)]
+
 ghost use Rattle.std.specs.Prelude.{◌≡◌};
 ghost use Rattle.wire_tree.specs.Trees.{build_stores, BuildSent, OfferSent};
 

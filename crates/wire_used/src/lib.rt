@@ -1,6 +1,9 @@
 // What a call that asks works on, loaded as far as it is used: rows past a list's count, cutters' places that no piece
 // has, and nodes past the tree are left 0. Objects take the cutters' places from the first up,
 // planes from the last down.
+
+#![tactic(auto)]
+
 ghost use Rattle.std.specs.Prelude.{◌≡◌, true, List, [], ℕ, ◌+◌, ◌*◌, ◌-◌, ◌<◌, ◌≤◌, drop};
 ghost use Rattle.scalar.specs.F32.{f0};
 ghost use Rattle.words.specs.Words.{word_at};

@@ -1,4 +1,7 @@
 // Tables of 32-bit words lent as bytes, four to a word, low first. Every read and write is total.
+
+#![tactic(auto)]
+
 ghost use Rattle.std.specs.Prelude.{◌≡◌, ◌+◌, ◌*◌, min, length};
 ghost use Rattle.words.specs.Words.{word_at, words_of, float_at, floats_of, put_word, with_words, sent_words};
 

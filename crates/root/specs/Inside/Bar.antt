@@ -1,7 +1,7 @@
 -- What a square is held against so that no root is taken: the root of x is at least b exactly where x is at least
 -- `barOf b`, the square of the midpoint of b and the f32 just below, which an f64 holds. Definitions only; the law is
 -- `bar-law` of proofs/BarLaw.antt.
-use Rattle.std.specs.Prelude.{◌-◌, Bool, true, false, cond, pos, negsuc, from_bits, to_bits, Float}
+use Rattle.std.specs.Prelude.{◌-◌, false, cond, pos, negsuc, from_bits, to_bits, Float}
 use Rattle.std.specs.Float.{fin, binary32, binary64}
 use Rattle.std.specs.Float.Ieee.{add, mul, lt}
 
