@@ -2,13 +2,13 @@
 -- or product, where the format holds that. By the rounding of one fraction. Assumes nothing.
 use mathlib.Core.Path.{◌≡◌, refl, sym, subst, ◌∙◌}
 use mathlib.Core.Bool.{Bool, true, false, true≢false}
-use Prim.Native.Nat.{ℕ, suc, ◌+◌, ◌*◌, ◌^◌, ◌≤◌, ◌<◌}
-use native.Mathlib.Nat.{mul-pos, add-mul, mul-add, mul_assoc, mul_comm, mul_left_comm, mul_right_comm, mul-le-mul}
+use Prim.Native.Nat.{ℕ, ◌+◌, ◌*◌, ◌^◌, ◌≤◌, ◌<◌}
+use native.Mathlib.Nat.{mul-pos, add-mul, mul_assoc, mul_comm, mul_right_comm}
 use native.Mathlib.Nat.{mul-le-mul_right, le_of_mul-le-mul_right, mul-one, le_trans as le-trans-ℕ}
 use native.Mathlib.Omega.{arith}
 use lib.Dec.{T, lit<}
 use lib.IntN.{ℤ}
-use lib.Ieee.{Float, nan, inf, fin, Format, prec, emax, up, round, neg, add, sub, mul, le}
+use lib.Ieee.{Float, nan, inf, fin, Format, prec, up, round, neg, add, sub, le}
 use lib.Ieee.Exact.{HasValue}
 use lib.Ieee.Back.{round_whole}
 use lib.Ieee.Positive.{den, den_pos}
@@ -16,11 +16,10 @@ use lib.Ieee.Order.{round_mono}
 use lib.Ieee.Scale.{finite}
 use Rattle.scalar.specs.Extremes.{fmax, fmin}
 use Rattle.float_order.specs.Inside.Order.{credit, debit, AtMost, zero_f, Apart, Rounded, Bounded, Exactly}
-use Rattle.float_order.proofs.Holding.{round_up}
 use Rattle.float_order.proofs.Order.{le→at_most, at_most→le, le_right, le_bottom, top_le, le_trans, neg_le}
 use Rattle.float_order.proofs.Extremes.{fmax_either, fmin_either}
 use Rattle.float_order.proofs.Rounding.{zero_le_zero, zero_zero, round_zero, round_neg, no_debit, add_rounded}
-use Rattle.float_order.proofs.Rounding.{mul_rounded, neg_finite}
+use Rattle.float_order.proofs.Rounding.{neg_finite}
 
 -- what lies between finite values is finite
 pub finite_between

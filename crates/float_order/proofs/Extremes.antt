@@ -1,14 +1,14 @@
 -- The greater, the lesser and the nearer of two floats bound both that are numbers, and are one of them; a NaN is
 -- passed over. By the cases of each test. Assumes nothing.
-use mathlib.Core.Path.{◌≡◌, refl, sym, ap, subst, ◌∙◌}
+use mathlib.Core.Path.{◌≡◌, refl, sym, ◌∙◌}
 use mathlib.Core.Logic.{◌⊎◌, inl, inr}
 use mathlib.Core.Bool.{Bool, true, false, cond}
 use lib.Dec.{T}
 use lib.Ieee.{Float, lt, eq, le}
 use Rattle.scalar.specs.Extremes.{fmax, fmin}
 use Rattle.float_order.specs.Inside.Order.{number, less_of}
-use Rattle.float_order.proofs.Order.{yes_of, not_of, is_not, number_eq, le_left, le_right, le_refl, le_trans}
-use Rattle.float_order.proofs.Order.{lt_le, lt_left, lt_not_le, le_of_not_lt, le_antisym}
+use Rattle.float_order.proofs.Order.{yes_of, not_of, number_eq, le_refl}
+use Rattle.float_order.proofs.Order.{lt_le, le_of_not_lt}
 
 either : (P : Float → Type 0) (p q : Bool) (a b : Float) → P a → P b → P (cond p a (cond q b a))
 either P true q a b x y = x

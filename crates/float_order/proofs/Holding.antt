@@ -1,15 +1,15 @@
 -- Rounding does not cross a value that the format holds: a fraction of at least x rounds to at least x. So what is not
 -- negative moves a sum up, and a difference down. Assumes nothing.
 use mathlib.Core.Path.{◌≡◌, refl, sym, ap, subst, ◌∙◌}
-use mathlib.Core.Bool.{Bool, true, false, cond, not, ◌&&◌, true≢false}
+use mathlib.Core.Bool.{Bool, true, false, cond, ◌&&◌, true≢false}
 use Prim.Native.Nat.{ℕ, zero, suc, ◌+◌, ◌-◌, ◌*◌, ◌/◌, ◌%◌, ◌^◌, ◌≤◌, ◌<◌}
 use native.Mathlib.Nat.{add-mul, mul_assoc, mul_comm, mul_right_comm, mul-le-mul_right, mul-pos, mul-one, zero-mul}
 use native.Mathlib.Nat.{mul-lt-mul_of_pos_right, lt_of_lt_of_le, lt_of_not-le, not-le_of_lt, le_of_eq, le_of_suc-le-suc}
 use native.Mathlib.Omega.{arith}
-use lib.Dec.{T, leb, ltb, eqb, ltb→lt, leb→le, eqb→eq}
+use lib.Dec.{T, leb, ltb, eqb, ltb→lt, leb→le}
 use lib.IntN.{ℤ, pos, negsuc}
 use lib.Pow.{pow-add, pow_pos, pow-lt}
-use lib.Ieee.{Float, nan, inf, fin, Format, prec, emax, low, up, down, size, hid, top, round, neg, add, sub, le, eq}
+use lib.Ieee.{Float, nan, inf, fin, Format, prec, emax, low, up, down, size, hid, top, round, neg, add, sub, le}
 use lib.Ieee.{fits, to_bits, of_bits}
 use lib.Ieee.Bits.{of_bits-to_bits}
 use lib.Ieee.Nearest.{div_same}
@@ -18,10 +18,10 @@ use lib.Ieee.Exact.{HasValue, round_exact}
 use lib.Ieee.Digits.{back}
 use lib.Ieee.Positive.{den, den_pos}
 use lib.Ieee.Scale.{finite}
-use Rattle.float_order.specs.Inside.Order.{credit, debit, zero_f, Rounded, minus_zero}
+use Rattle.float_order.specs.Inside.Order.{credit, debit, zero_f, Rounded}
 use Rattle.float_order.proofs.Order.{finite_number, le→at_most, at_most→le, le_left, le_right, bottom_le}
-use Rattle.float_order.proofs.Order.{le_top, le_refl, le_trans, neg_le, neg_number}
-use Rattle.float_order.proofs.Rounding.{no_debit, rounded_mono, add_rounded, add_mono, add_inf_right}
+use Rattle.float_order.proofs.Order.{le_refl, le_trans, neg_le, neg_number}
+use Rattle.float_order.proofs.Rounding.{rounded_mono, add_rounded, add_mono, add_inf_right}
 use Rattle.float_order.proofs.Rounding.{add_number'}
 
 -- ---- a value that the format holds is not rounded

@@ -1,16 +1,16 @@
 -- The order of floats: `le` is reflexive, transitive and total on the numbers (all but NaN), and `lt` is its negation
 -- the other way round. A finite value is the fraction (credit - debit) / den, so an order of two finite values is one
 -- of sums of products, with no case by sign. Assumes nothing.
-use mathlib.Core.Path.{◌≡◌, refl, sym, ap, subst}
+use mathlib.Core.Path.{◌≡◌, refl, sym, subst}
 use mathlib.Core.Logic.{◌⊎◌, inl, inr}
-use mathlib.Core.Bool.{Bool, true, false, not, ◌&&◌, ◌||◌, beq}
+use mathlib.Core.Bool.{Bool, true, false, not, ◌&&◌, ◌||◌}
 use Prim.Native.Nat.{ℕ, ◌+◌, ◌*◌, ◌≤◌, ◌<◌}
 use native.Mathlib.Nat.{le_of_eq, le_of_lt, eq-or-lt_of_le, le_of_mul-le-mul_right, mul-le-mul_right, add-mul}
 use native.Mathlib.Nat.{mul_assoc, mul_comm, mul_left_comm}
 use native.Mathlib.Omega.{arith}
 use lib.Dec.{T, ltb, eqb, ltb→lt, lt→ltb, nltb→le, eqb→eq, not_T, T_not}
 use lib.IntN.{ℤ}
-use lib.Ieee.{Float, nan, inf, fin, up, down, level, lt, eq, ne, le, neg, is_nan}
+use lib.Ieee.{Float, nan, inf, fin, up, down, lt, eq, le, neg, is_nan}
 use lib.Ieee.Fits.{and_l, and_r, and_i, eq→eqb}
 use lib.Ieee.Positive.{den, den_pos}
 use lib.Ieee.Scale.{finite}
