@@ -9,13 +9,12 @@ use native.Mathlib.Nat as nat
 use native.Mathlib.Omega.{arith}
 use lib.Dec.{T}
 use lib.Ieee.{Float, nan, inf, fin, binary32, binary64, of_bits, to_bits, up, round, add}
-use lib.Ieee.{mul, fits, lt, le, eq}
+use lib.Ieee.{mul, fits, lt, le}
 use lib.Ieee.Exact.{HasValue}
 use lib.Ieee.Fits.{up_pos}
 use lib.Ieee.Scale.{finite}
 use Rattle.root.specs.Root.{units, plain, root_of}
 use Rattle.root.specs.Inside.Bar.{bar, bar_of, apart_by}
-use Rattle.root.proofs.Nans.{unequal_nan}
 use Rattle.root.proofs.Laws.{root_plain}
 use Rattle.root.proofs.Order.{le→units, units→le}
 use Rattle.root.proofs.BarLaw.{bar_law, bar_value}
@@ -268,7 +267,7 @@ plain_apart l r p q h k =
     (le→units (root_of r) (root_of l) (root_plain r q) (root_plain l p) g))
   where
     lt_of_not : (a b : ℕ) → (b ≤ a → ⊥) → a < b
-    lt_of_not a b f = nat.lt_of_not_le f
+    lt_of_not a b f = nat.lt_of_not-le f
 
 -- and of any r above it
 Clear-apart

@@ -12,9 +12,7 @@ use Rattle.root.proofs.Whole.{no_nan_bits, plain_no_nan}
 use Rattle.root_tests.specs.Inside.Tests.{usual}
 use Rattle.root_tests.proofs.Squares.{usual_plain}
 use native.Mathlib.Omega.{arith}
-use borrow.Author.Rules.{rules}
-use Rattle.root_tests.proofs.root_guess.Statement.{statement}
-use Rattle.root_tests.proofs.root_guess.Tie as tie
+use Rattle.root_tests.proofs.root_guess.Goals as goal
 
 -- what has passed the test is plain
 usual_one : (x : Float) → T (fits binary32 x) → (u : Bool) → u ≡ usual x → u ≡ true → T (plain x)
@@ -29,25 +27,20 @@ small x p = under (to_bits binary32 x) (plain_small x p)
 fit : (n : ℕ) → n < 2139095040 → Fits w32 n
 fit n h = record { fits = omega arith }
 
-float-to-bits-s : tie.Need-float-to-bits-s
-float-to-bits-s c =
-    let s = c.before.before in
+pub float_to_bits-s : goal.float_to_bits-s
+float_to_bits-s c =
+    let s = c in
     plain_no_nan s.args.x
-    (usual_one s.args.x (subst T (sym s.well-formed.0.1) tt) _ c.before.usual.ensures c.if1.true)
+    (usual_one s.args.x (subst T (sym s.well_formed.0.1) tt) _ c.usual.ensures c.if-usual.true)
 
-add-s : tie.Need-overflow-add-s
-add-s c =
-    let s = c.before.before in
+pub overflow_add-s : goal.overflow_add-s
+overflow_add-s c =
+    let s = c in
     fit (to_bits binary32 s.args.x / 8192 * 4096 % 4294967296 + 532484096) (small s.args.x
-    (usual_one s.args.x (subst T (sym s.well-formed.0.1) tt) _ c.before.usual.ensures c.if1.true))
+    (usual_one s.args.x (subst T (sym s.well_formed.0.1) tt) _ c.usual.ensures c.if-usual.true))
 
-float-from-bits-s : tie.Need-float-from-bits-s
-float-from-bits-s c =
-    let s = c.before.before in
+pub float_from_bits-s : goal.float_from_bits-s
+float_from_bits-s c =
+    let s = c in
     no_nan_bits (to_bits binary32 s.args.x / 8192 * 4096 % 4294967296 + 532484096) (small s.args.x
-    (usual_one s.args.x (subst T (sym s.well-formed.0.1) tt) _ c.before.usual.ensures c.if1.true))
-
-pub root_guess_spec : {M : Type 1} → statement M
-root_guess_spec =
-    tie.close (tie.spec
-    (λ c κs. search rules) float-to-bits-s add-s float-from-bits-s (λ c. search rules) (λ c. search rules))
+    (usual_one s.args.x (subst T (sym s.well_formed.0.1) tt) _ c.usual.ensures c.if-usual.true))
