@@ -1,0 +1,16 @@
+-- `Vec3::axis` meets its contract. Assumes nothing.
+use borrow.Author.Tests.{ne_eqb}
+use Rattle.vectors.specs.Vec.{vaxis}
+use Rattle.vectors.proofs.Vec3.axis.Goals as goal
+
+pub returns-in-0 : goal.returns-in-0
+unfolding vaxis
+returns-in-0 c = rw c.in-0.is
+
+pub returns-in-1 : goal.returns-in-1
+unfolding vaxis
+returns-in-1 c = rw c.in-1.is
+
+pub returns-in_default : goal.returns-in_default
+unfolding vaxis
+returns-in_default c = simp (ne_eqb _ 0 c.in_default.in_default-own.rest.0.1, ne_eqb _ 1 c.in_default.in_default-own.rest.1)
