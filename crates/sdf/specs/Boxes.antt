@@ -2,8 +2,8 @@
 use Rattle.std.specs.Prelude.{Float}
 use Rattle.scalar.specs.F32.{◌⊕◌, f0, fhalf}
 use Rattle.scalar.specs.Extremes.{fmax}
-use Rattle.vec.specs.declared.Vec3.{Vec3}
-use Rattle.vec.specs.Vec.{vsplat, vadd, vsub, vscale, vlength, vmin, vmax}
+use Rattle.vectors.specs.declared.Vec3.{Vec3}
+use Rattle.vectors.specs.Vec.{vsplat, vadd, vsub, vscale, vlength, vmin, vmax}
 use Rattle.sdf.specs.declared.Shape.{Shape}
 use Rattle.sdf.specs.declared.Shape.TheVariants.{Sphere, RoundBox, Plane, Capsule, Torus, Cylinder, Cone}
 use Rattle.sdf.specs.declared.Aabb.{Aabb}

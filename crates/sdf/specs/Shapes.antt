@@ -5,8 +5,8 @@ use Rattle.root.specs.Root.{root_of}
 use Rattle.scalar.specs.F32.{◌⊕◌, ◌⊖◌, ◌⊗◌, ◌⊘◌, f0, fhalf, f1, f1e_12}
 use Rattle.scalar.specs.Extremes.{fmin, fmax, clamp_of}
 use Rattle.scalar.specs.Signs.{abs_of, signum_of}
-use Rattle.vec.specs.declared.Vec3.{Vec3}
-use Rattle.vec.specs.Vec.{vsplat, vsub, vscale, vdot, vlength, vmax, vabs}
+use Rattle.vectors.specs.declared.Vec3.{Vec3}
+use Rattle.vectors.specs.Vec.{vsplat, vsub, vscale, vdot, vlength, vmax, vabs}
 use Rattle.sdf.specs.declared.Shape.{Shape}
 use Rattle.sdf.specs.declared.Shape.TheVariants.{Sphere, RoundBox, Plane, Capsule, Torus, Cylinder, Cone}
 

@@ -7,9 +7,9 @@ ghost use Rattle.sdf.specs.Shapes.{sphere, round_box, plane, capsule, torus, bey
 ghost use Rattle.sdf.specs.Shapes.{cylinder, cone_end, cone_foot, cone_sign, cone_at, cone_body, cone, dist_of};
 ghost use Rattle.sdf.specs.Boxes.{spread, around, bounds_of, widened, box_of, centre_of, box_dist};
 
-use vec::Vec3;
+use vectors::Vec3;
 
-#[derive(Drop)]
+#[derive(Clone, Copy)]
 pub enum Shape {
     Sphere { c: Vec3, r: f32 },
     RoundBox { c: Vec3, b: Vec3, r: f32 },
@@ -22,13 +22,13 @@ pub enum Shape {
     Cone { a: Vec3, b: Vec3, ra: f32, rb: f32 },
 }
 
-#[derive(Drop)]
+#[derive(Clone, Copy)]
 pub struct Aabb {
     pub lo: Vec3,
     pub hi: Vec3,
 }
 
-#[derive(Drop)]
+#[derive(Clone, Copy)]
 pub enum Bounds {
     Within(Aabb),
     // A plane's.
