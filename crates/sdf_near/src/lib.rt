@@ -11,7 +11,7 @@ ghost use Rattle.scalar.specs.Signs.{abs_of};
 ghost use Rattle.sdf.specs.Shapes.{sphere, round_box, capsule, torus};
 ghost use Rattle.sdf_near.specs.Inside.Near.{Near, OffRing};
 
-use vec::Vec3;
+use vectors::Vec3;
 
 // `scalar::abs`, in the form that compilers know for one instruction.
 pub fn size(x: f32) -> f32
