@@ -14,7 +14,7 @@ ghost use Rattle.sdf_near.specs.Inside.Near.{Near};
 ghost use Rattle.sdf_caps.specs.Inside.Caps.{outside, signed_square, cylinder_at, lesser, not_below, past_end};
 ghost use Rattle.sdf_caps.specs.Inside.Caps.{cay_of, cone_by, Ends, Sides};
 
-use vec::Vec3;
+use vectors::Vec3;
 
 // A guess as it is, or as little as it may be where it is not above zero.
 fn above_zero(v: f32) -> f32
