@@ -1,10 +1,10 @@
 -- "Kinds count 0 to 6, and words stand, in the source's order", and what a primitive's numbers must be.
-use Rattle.std.specs.Prelude.{ℕ, Bool, true, false, not, cond, ◌&&◌, leb, eqb, Float}
+use Rattle.std.specs.Prelude.{ℕ, Bool, false, not, cond, ◌&&◌, leb, eqb, Float}
 use Rattle.std.specs.Float.Ieee.{eq}
 use Rattle.scalar.specs.F32.{f0}
 use Rattle.scalar.specs.Ranges.{magnitude}
-use Rattle.vec.specs.declared.Vec3.{Vec3}
-use Rattle.vec.specs.Vec.{vsub, vdot}
+use Rattle.vectors.specs.declared.Vec3.{Vec3}
+use Rattle.vectors.specs.Vec.{vsub, vdot}
 use Rattle.sdf.specs.declared.Shape.{Shape}
 use Rattle.sdf.specs.declared.Shape.TheVariants.{Sphere, RoundBox, Plane, Capsule, Torus, Cylinder, Cone}
 use Rattle.refusals.specs.Refusals.{bad_number, no_extent, unless, lower}

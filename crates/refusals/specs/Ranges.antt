@@ -7,7 +7,7 @@ use Rattle.std.specs.Float.{binary32}
 use Rattle.std.specs.Float.Ieee.{of_bits}
 use Rattle.scalar.specs.F32.{f0}
 use Rattle.scalar.specs.Ranges.{between, magnitude}
-use Rattle.vec.specs.declared.Vec3.{Vec3}
+use Rattle.vectors.specs.declared.Vec3.{Vec3}
 
 abbrev pub far : Float  -- 10,000
 far = of_bits binary32 0x461c_4000

@@ -8,7 +8,7 @@ ghost use Rattle.refusals.specs.Ranges.{up_to, within, within_up_to, coordinates
 ghost use Rattle.refusals.specs.Prims.{shape_of, shape_ok, no_length, flat, prim_number};
 
 use sdf::Shape;
-use vec::Vec3;
+use vectors::Vec3;
 
 // The numbers sent back, but for 0: done.
 pub const BAD_NUMBER: u32 = 1;

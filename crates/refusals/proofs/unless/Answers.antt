@@ -1,0 +1,11 @@
+-- `refusals::unless` meets its contract. Assumes nothing.
+use Rattle.refusals.specs.Refusals.{unless}
+use Rattle.refusals.proofs.unless.Goals as goal
+
+pub returns-then-ok : goal.returns-then-ok
+unfolding unless
+returns-then-ok c = simp c.if-ok.true
+
+pub returns-else-ok : goal.returns-else-ok
+unfolding unless
+returns-else-ok c = simp c.if-ok.false
