@@ -8,7 +8,7 @@ use native.Mathlib.Numerals.{add-one}
 use native.Mathlib.Omega.{arith}
 use lib.ListN.{length}
 use lib.Ieee.{Float, nan}
-use Rattle.vec.specs.declared.Vec3.{Vec3}
+use Rattle.vectors.specs.declared.Vec3.{Vec3}
 use Rattle.refusals.specs.Prims.{shape_of}
 use Rattle.words.specs.Lists.{list_from}
 use Rattle.words.proofs.Laws.{past_end}

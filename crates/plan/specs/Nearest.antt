@@ -4,7 +4,7 @@
 use Rattle.std.specs.Prelude.{cond, List, [], ◌∷◌, Float}
 use Rattle.std.specs.Float.Ieee.{neg, lt}
 use Rattle.scalar.specs.Extremes.{fmax}
-use Rattle.vec.specs.declared.Vec3.{Vec3}
+use Rattle.vectors.specs.declared.Vec3.{Vec3}
 use Rattle.sdf.specs.Shapes.{dist_of}
 use Rattle.refusals.specs.Ranges.{greatest}
 use Rattle.plan.specs.declared.Cutter.{Cutter}

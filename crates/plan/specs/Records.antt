@@ -1,7 +1,7 @@
 -- What a row's words stand for: VIEWER.md's records, as words (w) and floats (f, a NaN's bits a NaN) in the same place.
 use Rattle.std.specs.Prelude.{ℕ, ◌+◌, ◌*◌, List, get_or, Float}
 use Rattle.std.specs.Float.{nan}
-use Rattle.vec.specs.declared.Vec3.{Vec3}
+use Rattle.vectors.specs.declared.Vec3.{Vec3}
 use Rattle.sdf.specs.declared.Shape.{Shape}
 use Rattle.refusals.specs.Prims.{shape_of}
 use Rattle.plan.specs.declared.Material.{Material}

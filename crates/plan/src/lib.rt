@@ -8,7 +8,7 @@ ghost use Rattle.plan.specs.Inside.None.{no_shape, no_head};
 ghost use Rattle.plan.specs.Records.{light_in, cutter_at, head_at};
 
 use sdf::Shape;
-use vec::Vec3;
+use vectors::Vec3;
 
 // What a call works on, in one table: the plan, its arguments, the nodes and the order of a tree. It is held twice, as
 // words and as floats.
@@ -74,7 +74,7 @@ pub const CUTTERS: u32 = 1024;
 
 pub const CUTS: u32 = 8;
 
-#[derive(Drop)]
+#[derive(Clone, Copy)]
 pub struct Material {
     pub albedo: Vec3,
     pub roughness: f32,
@@ -82,7 +82,7 @@ pub struct Material {
 }
 
 // Corners counter-clockwise, seen from the emitting side.
-#[derive(Drop)]
+#[derive(Clone, Copy)]
 pub struct QuadLight {
     pub v0: Vec3,
     pub v1: Vec3,
@@ -92,14 +92,14 @@ pub struct QuadLight {
 }
 
 // A cutter: its kind word, and the shape that its words make.
-#[derive(Drop)]
+#[derive(Clone, Copy)]
 pub struct Cutter {
     pub kind: u32,
     pub shape: Shape,
 }
 
 // A piece but for its cutters: how many, and the place of the first.
-#[derive(Drop)]
+#[derive(Clone, Copy)]
 pub struct Head {
     pub material: u32,
     pub blend: f32,
@@ -109,7 +109,7 @@ pub struct Head {
     pub place: u32,
 }
 
-#[derive(Drop)]
+#[derive(Clone, Copy)]
 pub struct DistHit {
     pub d: f32,
     pub mat: u32,

@@ -1,0 +1,17 @@
+-- `plan::cutter_at` meets its contract: before the last row by the words read, and past it since the tables end there.
+-- Assumes nothing.
+use native.Mathlib.Omega.{arith}
+use Rattle.plan.specs.Records.{cutter_at}
+use Rattle.plan.proofs.Lists.{cutter_past}
+use Rattle.plan.proofs.cutter_at.Goals as goal
+
+pub returns-then-r-lt-ROWS : goal.returns-then-r-lt-ROWS
+unfolding cutter_at
+returns-then-r-lt-ROWS c = rw c.shape_of-shape.ensures
+
+pub returns : goal.returns
+returns c =
+    let a = c.args in
+    let past = cutter_past a.ws.now a.fs.now (omega arith) (omega arith)
+    a.r c.if-r-lt-ROWS.false in
+    rw (past, c.no_shape.ensures)
