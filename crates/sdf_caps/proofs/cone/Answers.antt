@@ -6,13 +6,11 @@ use Rattle.sdf_caps.proofs.cone.Goals as goal
 pub returns-then-baba : goal.returns-then-baba
 unfolding cone
 returns-then-baba c =
-    let i = c in
-    rw (sym i.sub-ba.ensures, sym i.dot-baba.ensures)
-    (rw (i.if-baba.true, sym c.max.ensures) c.sphere.ensures)
+    rw (sym c.sub-ba.ensures, sym c.dot-baba.ensures)
+    (rw (c.if-baba.true, sym c.max.ensures) c.sphere.ensures)
 
 pub returns : goal.returns
 unfolding cone
 returns c =
-    let i = c in
-    rw (sym i.sub-ba.ensures, sym i.dot-baba.ensures)
-    (rw (i.if-baba.false, sym c.sub.ensures) c.cone_body.ensures)
+    rw (sym c.sub-ba.ensures, sym c.dot-baba.ensures)
+    (rw (c.if-baba.false, sym c.sub.ensures) c.cone_body.ensures)

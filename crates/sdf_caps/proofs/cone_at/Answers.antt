@@ -6,20 +6,14 @@ use Rattle.sdf_caps.proofs.cone_at.Goals as goal
 
 pub returns-then-sure : goal.returns-then-sure
 returns-then-sure c =
-    let u = c in
-    let i = u in
-    let z = i in
-    let e = z in
-    let a = e in
-    rw (sym a.size-cay.ensures) (inr (
+    rw (sym c.size-cay.ensures) (inr (
       refl,
-      by_bounds _ _ _ _ _ _ _ _ _ _ _ e.ends-e.ensures (z.sides-z.ensures refl)
-          a.above_zero-w.ensures (u.sure.ensures c.if-sure.true)
-          (i.reaches.ensures i.if-reaches.true),
+      by_bounds _ _ _ _ _ _ _ _ _ _ _ c.ends-e.ensures (c.sides-z.ensures refl)
+          c.above_zero-w.ensures (c.sure.ensures c.if-sure.true)
+          (c.reaches.ensures c.if-reaches.true),
     ))
 
 pub returns : goal.returns
 returns c =
-    let a = c in
-    rw (sym a.size-cay.ensures, sym c.quick_root.ensures)
-    (c.cone_from.ensures a.above_zero-w.ensures)
+    rw (sym c.size-cay.ensures, sym c.quick_root.ensures)
+    (c.cone_from.ensures c.above_zero-w.ensures)

@@ -6,6 +6,4 @@ use Rattle.sdf_caps.proofs.cone_body.Goals as goal
 pub returns : goal.returns
 unfolding cone_body cone_at
 returns c =
-    let m = c in
-    let d = m in
-    rw (sym d.dot.ensures, sym d.dot-2.ensures) (rw (sym m.max.ensures) c.cone_at.ensures)
+    rw (sym c.dot.ensures, sym c.dot-2.ensures) (rw (sym c.max.ensures) c.cone_at.ensures)

@@ -6,12 +6,10 @@ use Rattle.sdf_caps.proofs.cylinder.Goals as goal
 pub returns-then-baba : goal.returns-then-baba
 unfolding cylinder
 returns-then-baba c =
-    let i = c in
-    rw (sym i.sub-ba.ensures, sym i.dot-baba.ensures) (rw i.if-baba.true c.sphere.ensures)
+    rw (sym c.sub-ba.ensures, sym c.dot-baba.ensures) (rw c.if-baba.true c.sphere.ensures)
 
 pub returns : goal.returns
 unfolding cylinder
 returns c =
-    let i = c in
-    rw (sym i.sub-ba.ensures, sym i.dot-baba.ensures)
-    (rw (i.if-baba.false, sym c.sub.ensures) c.cylinder_body.ensures)
+    rw (sym c.sub-ba.ensures, sym c.dot-baba.ensures)
+    (rw (c.if-baba.false, sym c.sub.ensures) c.cylinder_body.ensures)

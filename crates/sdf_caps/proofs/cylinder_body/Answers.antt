@@ -7,9 +7,5 @@ use Rattle.sdf_caps.proofs.cylinder_body.Goals as goal
 pub returns : goal.returns
 unfolding cylinder_body vlength
 returns c =
-    let a = c in
-    let d = a in
-    let s = d in
-    let k = s in
-    rw (sym k.dot-paba.ensures, sym k.scale.ensures, sym k.scale-2.ensures)
-    (rw (sym s.sub-v.ensures, sym d.dot.ensures, sym a.size.ensures) c.cylinder_at.ensures)
+    rw (sym c.dot-paba.ensures, sym c.scale.ensures, sym c.scale-2.ensures)
+    (rw (sym c.sub-v.ensures, sym c.dot.ensures, sym c.size.ensures) c.cylinder_at.ensures)

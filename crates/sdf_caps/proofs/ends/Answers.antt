@@ -4,9 +4,7 @@ use Rattle.sdf_caps.proofs.ends.Goals as goal
 
 pub returns-then-cay : goal.returns-then-cay
 returns-then-cay c =
-    let j = c in
-    let i = j in
-    ends_past _ _ _ _ i.past_end-c.ensures i.if-c.true j.if-cay.true c.lesser.ensures
+    ends_past _ _ _ _ c.past_end-c.ensures c.if-c.true c.if-cay.true c.lesser.ensures
 
 pub returns-else-cay : goal.returns-else-cay
 returns-else-cay c = ends_none _ _

@@ -4,8 +4,7 @@ use Rattle.sdf_caps.proofs.over.Goals as goal
 
 pub returns-then-z : goal.returns-then-z
 returns-then-z c =
-    let i = c in
-    let r = i.reaches.ensures i.if-reaches.true in
+    let r = c.reaches.ensures c.if-reaches.true in
     passes _ _ _ r.0 r.1 c.if-z.true
 
 pub returns-else-z : goal.returns-else-z

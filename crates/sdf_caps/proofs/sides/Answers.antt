@@ -4,11 +4,8 @@ use Rattle.sdf_caps.proofs.sides.Goals as goal
 
 pub returns-then-y : goal.returns-then-y
 returns-then-y c = λ e.
-    let y = c in
-    let n = y in
-    let i = n in
-    sides_past _ _ _ _ _ _ _ _ (i.reaches.ensures i.if-reaches.true) i.max-m.ensures
-    n.not_below.ensures y.if-z.true y.if-y.true c.lesser.ensures e
+    sides_past _ _ _ _ _ _ _ _ (c.reaches.ensures c.if-reaches.true) c.max-m.ensures
+    c.not_below.ensures c.if-z.true c.if-y.true c.lesser.ensures e
 
 pub returns-else-y : goal.returns-else-y
 returns-else-y c = λ e. sides_none _ _ _ _

@@ -11,11 +11,10 @@ never e = absurd (false≢true e)
 pub returns-then-baba-2 : goal.returns-then-baba-2
 returns-then-baba-2 c = λ e.
     let h = c.if-baba.true in
-    let i = c in
-    let a = i.args in (
+    let a = c.args in (
       above_finite a.baba h c.if-baba-2.true,
       yes_of h,
-      yes_of (sym (number_eq a.cay) ∙ i.if-cay.true),
+      yes_of (sym (number_eq a.cay) ∙ c.if-cay.true),
       yes_of e,
     )
 
