@@ -2,7 +2,7 @@
 -- applies already, w and f are a call's table as words and as floats.
 use Rattle.std.specs.Prelude.{ℕ, ◌+◌, ◌*◌, Bool, ◌&&◌, cond, List, eqb, Float}
 use Rattle.scalar.specs.Ranges.{magnitude}
-use Rattle.vec.specs.declared.Vec3.{Vec3}
+use Rattle.vectors.specs.declared.Vec3.{Vec3}
 use Rattle.refusals.specs.Refusals.{bad_number, unless, lower}
 use Rattle.refusals.specs.Ranges.{greatest, farthest, farther, steep, longest, up_to, within}
 use Rattle.plan.specs.Sections.{args_row}

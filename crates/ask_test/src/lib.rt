@@ -7,7 +7,7 @@ ghost use Rattle.std.specs.Prelude.{◌≡◌};
 ghost use Rattle.ask_test.specs.Numbers.{tree_number, query_number, solids_ask, ray_ok};
 
 use plan::{Floats, Words};
-use vec::Vec3;
+use vectors::Vec3;
 
 // What the standing tree gets, where the tree is used.
 pub fn tree_number(tree: u32, ws: &Words, fs: &Floats) -> u32

@@ -12,7 +12,7 @@ use lib.Ieee.Nearest.{div_mono}
 use borrow.Author.Tests.{leb-true}
 use mir.Syntax.{w32}
 use mir.Val.{Fits}
-use Rattle.vec.specs.declared.Vec3.{Vec3}
+use Rattle.vectors.specs.declared.Vec3.{Vec3}
 use Rattle.words.specs.Lists.{list_from}
 use Rattle.words.proofs.Runs.{from_snoc}
 use Rattle.plan.specs.declared.QuadLight.{QuadLight}

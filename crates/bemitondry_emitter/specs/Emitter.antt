@@ -2,7 +2,7 @@
 -- 16, or a length that is no whole number of records, gets 2 and no record is judged; else each is tested as on entry
 -- (1, 4)."
 use Rattle.std.specs.Prelude.{ℕ, ◌+◌, ◌*◌, ◌/◌, ◌%◌, Bool, cond, ◌&&◌, List, length, leb, eqb, Float}
-use Rattle.vec.specs.declared.Vec3.{Vec3}
+use Rattle.vectors.specs.declared.Vec3.{Vec3}
 use Rattle.words.specs.Lists.{list_from}
 use Rattle.refusals.specs.Refusals.{bad_number, no_room, unless, lower, lowest_of}
 use Rattle.refusals.specs.Ranges.{farther, steep, longest, up_to, within}

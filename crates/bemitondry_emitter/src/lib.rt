@@ -15,7 +15,7 @@ ghost use Rattle.bemitondry_emitter.specs.Emitter.{emitter_reply};
 use emitter::Emitted;
 use plan::QuadLight;
 use reply::Reply;
-use vec::Vec3;
+use vectors::Vec3;
 
 // Whether so many bytes are whole records, and no more than a plan may have.
 fn records_ok(bytes: usize) -> bool

@@ -2,7 +2,7 @@
 -- albedo, roughness, metallic 0 to 1."
 use Rattle.std.specs.Prelude.{ℕ, Bool, ◌&&◌, List, take, Float}
 use Rattle.scalar.specs.F32.{f1}
-use Rattle.vec.specs.declared.Vec3.{Vec3}
+use Rattle.vectors.specs.declared.Vec3.{Vec3}
 use Rattle.refusals.specs.Refusals.{bad_number, unless, lower}
 use Rattle.refusals.specs.Ranges.{far, steep, within, within_up_to}
 use Rattle.plan.specs.declared.Material.{Material}

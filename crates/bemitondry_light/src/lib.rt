@@ -9,7 +9,7 @@ ghost use Rattle.bemitondry_light.specs.Light.{site_ok, lit_ask, lit_reply, dire
 use plan::{Floats, Material, Words};
 use reply::Reply;
 use shade::Lit;
-use vec::Vec3;
+use vectors::Vec3;
 
 fn site_ok(p: Vec3, n: Vec3) -> bool
     ensures { result ≡ site_ok p n }

@@ -2,7 +2,7 @@
 use Rattle.std.specs.Prelude.{ℕ, Bool, ◌&&◌, Float}
 use Rattle.scalar.specs.F32.{f1}
 use Rattle.scalar.specs.Ranges.{magnitude}
-use Rattle.vec.specs.declared.Vec3.{Vec3}
+use Rattle.vectors.specs.declared.Vec3.{Vec3}
 use Rattle.refusals.specs.Refusals.{bad_number, unless, lower}
 use Rattle.refusals.specs.Ranges.{farthest, widest, within, within_up_to}
 use Rattle.plan.specs.declared.Material.{Material}

@@ -14,7 +14,7 @@ use plan::Material;
 use quad::Quad;
 use reply::Reply;
 use sdf::Bounds;
-use vec::Vec3;
+use vectors::Vec3;
 
 // A float, where the number is 0.
 fn float_reply(n: u32, x: f32) -> Reply

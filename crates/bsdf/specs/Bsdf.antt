@@ -3,8 +3,8 @@ use Rattle.std.specs.Prelude.{Float}
 use Rattle.root.specs.Root.{root_of}
 use Rattle.scalar.specs.F32.{◌⊕◌, ◌⊖◌, ◌⊗◌, ◌⊘◌, f0, fhalf, f1, fpi, f0·04, f1e_9}
 use Rattle.scalar.specs.Extremes.{fmax, clamp_of}
-use Rattle.vec.specs.declared.Vec3.{Vec3}
-use Rattle.vec.specs.Vec.{vsplat, vadd, vsub, vscale, vlerp}
+use Rattle.vectors.specs.declared.Vec3.{Vec3}
+use Rattle.vectors.specs.Vec.{vsplat, vadd, vsub, vscale, vlerp}
 
 unfoldable pub fresnel_of : Float → Vec3 → Vec3  -- Schlick's: r is the reflectance straight on
 fresnel_of c r =

@@ -5,7 +5,7 @@
 ghost use Rattle.std.specs.Prelude.{◌≡◌};
 ghost use Rattle.bsdf.specs.Bsdf.{fresnel_of, d_ggx_of, smith_part, v_smith_of, f0_of, diffuse_albedo_of};
 
-use vec::Vec3;
+use vectors::Vec3;
 
 // At the cosine c; f0 is what is reflected straight on.
 pub fn fresnel_schlick(c: f32, f0: Vec3) -> Vec3

@@ -3,7 +3,7 @@ use Rattle.std.specs.Prelude.{ℕ, zero, suc, ◌+◌, min, cond, ◌||◌, List
 use Rattle.std.specs.Float.{binary32}
 use Rattle.std.specs.Float.Ieee.{of_int, to_unsigned, lt}
 use Rattle.scalar.specs.F32.{◌⊕◌, ◌⊖◌, ◌⊗◌, ◌⊘◌, f0, f2, f12}
-use Rattle.vec.specs.Vec.{vsub, vaxis}
+use Rattle.vectors.specs.Vec.{vsub, vaxis}
 use Rattle.sdf.specs.declared.Aabb.{Aabb}
 use Rattle.sdf.specs.Boxes.{centre_of}
 use Rattle.refusals.specs.Ranges.{greatest}

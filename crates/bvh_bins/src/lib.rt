@@ -29,7 +29,7 @@ const MIDDLE: u32 = 6;
 pub const PLACES: usize = 256;
 
 // Where the bins lie.
-#[derive(Drop)]
+#[derive(Clone, Copy)]
 pub struct Grid {
     pub axis: u32,
     pub low: f32,
@@ -37,7 +37,7 @@ pub struct Grid {
 }
 
 // The bins from some place on, and the best split so far.
-#[derive(Drop)]
+#[derive(Clone, Copy)]
 pub struct Sweep {
     pub hull: Aabb,
     pub count: u32,

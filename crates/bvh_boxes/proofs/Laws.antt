@@ -9,7 +9,7 @@ use lib.ListN.{length}
 use lib.Ieee.{neg, le, of_bits}
 use lib.Ieee.Fits.{and_l, and_r, and_i}
 use Rattle.scalar.specs.Ranges.{between, magnitude}
-use Rattle.vec.specs.Vec.{vsplat, vmin, vmax}
+use Rattle.vectors.specs.Vec.{vsplat, vmin, vmax}
 use Rattle.sdf.specs.declared.Aabb.{Aabb}
 use Rattle.refusals.specs.Ranges.{greatest, within}
 use Rattle.bvh_boxes.specs.Boxes.{finite_box, all_at_most, inside, nowhere, merge, box_at}

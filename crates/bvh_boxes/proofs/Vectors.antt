@@ -7,8 +7,8 @@ use lib.Ieee.{Float, neg, lt, le}
 use lib.Ieee.Fits.{and_l, and_r, and_i}
 use Rattle.scalar.specs.Extremes.{fmin, fmax}
 use Rattle.scalar.specs.Ranges.{between, magnitude}
-use Rattle.vec.specs.declared.Vec3.{Vec3}
-use Rattle.vec.specs.Vec.{vmin, vmax}
+use Rattle.vectors.specs.declared.Vec3.{Vec3}
+use Rattle.vectors.specs.Vec.{vmin, vmax}
 use Rattle.refusals.specs.Ranges.{greatest, within}
 use Rattle.float_order.specs.Inside.Order.{number}
 use Rattle.float_order.proofs.Order.{is_yes, is_not, number_eq, le_right, le_refl, le_trans, lt_not_le}

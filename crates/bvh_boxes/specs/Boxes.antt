@@ -1,8 +1,8 @@
 -- Boxes in order: finite corners, a box within a box, the least box around many, and the boxes of a plan's objects.
 use Rattle.std.specs.Prelude.{ℕ, Bool, ◌&&◌, List, map, get_or}
 use Rattle.std.specs.Float.Ieee.{le, neg}
-use Rattle.vec.specs.declared.Vec3.{Vec3}
-use Rattle.vec.specs.Vec.{vsplat, vmin, vmax}
+use Rattle.vectors.specs.declared.Vec3.{Vec3}
+use Rattle.vectors.specs.Vec.{vsplat, vmin, vmax}
 use Rattle.sdf.specs.declared.Aabb.{Aabb}
 use Rattle.sdf.specs.Boxes.{box_of}
 use Rattle.refusals.specs.Ranges.{greatest, within}

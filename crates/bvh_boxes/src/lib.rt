@@ -7,7 +7,7 @@ ghost use Rattle.plan.specs.Plan.{plan_of};
 ghost use Rattle.bvh_boxes.specs.Boxes.{finite_box, all_at_most, inside, nowhere, merge, no_box, box_at, boxes_of};
 
 use sdf::Aabb;
-use vec::Vec3;
+use vectors::Vec3;
 
 pub fn finite(b: Aabb) -> bool
     ensures { result ≡ finite_box b }

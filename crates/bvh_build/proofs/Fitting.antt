@@ -5,8 +5,8 @@ use lib.Ieee.{Float, binary32, fits}
 use lib.Ieee.Fits.{add-fits, sub-fits, neg-fits}
 use lib.Ieee.Bits.{of_bits-fits}
 use Rattle.scalar.specs.F32.{f0}
-use Rattle.vec.specs.declared.Vec3.{Vec3}
-use Rattle.vec.specs.Vec.{vsplat, vadd, vsub, vmin, vmax}
+use Rattle.vectors.specs.declared.Vec3.{Vec3}
+use Rattle.vectors.specs.Vec.{vsplat, vadd, vsub, vmin, vmax}
 use Rattle.sdf.specs.declared.Aabb.{Aabb}
 use Rattle.sdf.specs.declared.Bounds.{Bounds}
 use Rattle.sdf.specs.declared.Bounds.TheVariants.{Within, Unbounded}

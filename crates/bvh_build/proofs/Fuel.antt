@@ -3,8 +3,8 @@
 use Rattle.std.proofs.Common.{◌≡◌, ℕ, zero, suc, ◌+◌, ◌-◌, ◌<◌, ◌≤◌, Bool, true, false, ◌||◌, T, leb, List, length, take, drop, sym, refl, ap, ◌∙◌, subst, arith, length-drop, length-take-le, leb-false}
 use lib.Ieee.{lt}
 use Rattle.sdf.specs.declared.Aabb.{Aabb}
-use Rattle.vec.specs.declared.Vec3.{Vec3}
-use Rattle.vec.specs.Vec.{vaxis}
+use Rattle.vectors.specs.declared.Vec3.{Vec3}
+use Rattle.vectors.specs.Vec.{vaxis}
 use Rattle.bvh_range.specs.Range.{span_of, extent_of, axis_of, narrowest, stops}
 use Rattle.bvh_split.specs.Part.{Parted, cut_of}
 use Rattle.bvh_split.proofs.Cuts.{cut_length, cut_mid}

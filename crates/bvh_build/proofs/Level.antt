@@ -5,7 +5,7 @@ use Rattle.std.proofs.Common.{◌≡◌, ℕ, ◌+◌, ◌-◌, ◌*◌, ◌%◌
 use lib.Seq.{take-length, drop-length}
 use borrow.Rule.Slice.PartMut.{put_mid, same_len_mid}
 use Rattle.sdf.specs.declared.Aabb.{Aabb}
-use Rattle.vec.specs.declared.Vec3.{Vec3}
+use Rattle.vectors.specs.declared.Vec3.{Vec3}
 use Rattle.bvh_rules.specs.Rules.{size, weight}
 use Rattle.bvh_range.specs.declared.Span.{Span}
 use Rattle.bvh_range.specs.Range.{span_of, extent_of, stops}

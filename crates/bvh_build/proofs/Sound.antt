@@ -7,8 +7,8 @@ use lib.Ieee.Fits.{and_l, and_r}
 use Rattle.scalar.specs.F32.{◌⊕◌, f0}
 use Rattle.scalar.specs.Extremes.{fmax}
 use Rattle.scalar.specs.Ranges.{between, magnitude}
-use Rattle.vec.specs.declared.Vec3.{Vec3}
-use Rattle.vec.specs.Vec.{vsplat, vadd, vsub, vmin, vmax}
+use Rattle.vectors.specs.declared.Vec3.{Vec3}
+use Rattle.vectors.specs.Vec.{vsplat, vadd, vsub, vmin, vmax}
 use Rattle.sdf.specs.declared.Shape.{Shape}
 use Rattle.sdf.specs.declared.Shape.TheVariants.{Sphere, RoundBox, Plane, Capsule, Torus, Cylinder, Cone}
 use Rattle.sdf.specs.declared.Aabb.{Aabb}

@@ -4,7 +4,7 @@ use Rattle.std.proofs.Common.{◌≡◌, ℕ, ◌+◌, ◌*◌, ◌<◌, ◌≤�
 use lib.ListN.{get_or-append}
 use lib.Ieee.{Float, binary32, of_bits, fits, nan}
 use lib.Ieee.Bits.{of_bits-to_bits}
-use Rattle.vec.specs.declared.Vec3.{Vec3}
+use Rattle.vectors.specs.declared.Vec3.{Vec3}
 use Rattle.sdf.specs.declared.Aabb.{Aabb}
 use Rattle.words.specs.Words.{float_at, floats_of}
 use Rattle.words.proofs.Runs.{get_d_from}

@@ -3,7 +3,7 @@
 use Rattle.std.proofs.Common.{◌≡◌, ℕ, ◌+◌, ◌*◌, ◌/◌, ◌<◌, ◌≤◌, true, false, List, ◌++◌, length, get_or, drop, replicate, sym, refl, ap, ◌∙◌, subst, arith, ext_get_or, lt-ltb, eq-eqb, ne_eqb}
 use lib.ListN.{length-replicate, get_or-replicate}
 use lib.Ieee.{Float, nan}
-use Rattle.vec.specs.Vec.{vsplat}
+use Rattle.vectors.specs.Vec.{vsplat}
 use Rattle.sdf.specs.declared.Aabb.{Aabb}
 use Rattle.words.specs.Lists.{list_from}
 use Rattle.words.proofs.Runs.{get_d_from, length_from, from_same}

@@ -23,7 +23,7 @@ const WORDS: usize = 4294967296;
 const BOXES_FLOATS: usize = 2048;
 
 // The next free place, and whether no node is too deep.
-#[derive(Drop)]
+#[derive(Clone, Copy)]
 pub struct Built {
     pub next: usize,
     pub low: bool,

@@ -5,8 +5,8 @@ use mathlib.Core.Bool.{Bool, true, false, not, cond}
 use lib.Dec.{T}
 use lib.Ieee.{Float, nan, inf, fin, lt, eq, le, neg, of_bits}
 use Rattle.scalar.specs.Extremes.{fmin, fmax}
-use Rattle.vec.specs.Vec.{vsplat, vmin, vmax}
-use Rattle.vec.specs.declared.Vec3.{Vec3}
+use Rattle.vectors.specs.Vec.{vsplat, vmin, vmax}
+use Rattle.vectors.specs.declared.Vec3.{Vec3}
 use Rattle.sdf.specs.declared.Aabb.{Aabb}
 use Rattle.float_order.specs.Inside.Order.{number}
 use Rattle.float_order.proofs.Order.{is_yes, number_eq, lt_is_not_le}

@@ -3,8 +3,8 @@
 use Rattle.std.specs.Prelude.{ℕ, Bool, cond, ◌&&◌, ◌||◌, List, [], ◌∷◌, leb, Float}
 use Rattle.std.specs.Float.Ieee.{lt}
 use Rattle.scalar.specs.F32.{f1e_9}
-use Rattle.vec.specs.declared.Vec3.{Vec3}
-use Rattle.vec.specs.Vec.{vsub, vaxis}
+use Rattle.vectors.specs.declared.Vec3.{Vec3}
+use Rattle.vectors.specs.Vec.{vsub, vaxis}
 use Rattle.sdf.specs.declared.Aabb.{Aabb}
 use Rattle.sdf.specs.Boxes.{centre_of}
 use Rattle.bvh_boxes.specs.Boxes.{nowhere, merge, box_at}

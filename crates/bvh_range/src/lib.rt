@@ -4,14 +4,14 @@
 
 ghost use Rattle.std.specs.Prelude.{◌≡◌, get_or};
 ghost use Rattle.scalar.specs.F32.{f0};
-ghost use Rattle.vec.specs.Vec.{vmin, vmax};
+ghost use Rattle.vectors.specs.Vec.{vmin, vmax};
 ghost use Rattle.bvh_boxes.specs.Boxes.{nowhere, merge, box_at};
 ghost use Rattle.bvh_range.specs.Range.{point, span_of, extent_of, axis_of, stops};
 ghost use Rattle.bvh_range.specs.Inside.Table.{table_boxes, corner, box_of_row, with_row, put_box};
 ghost use Rattle.bvh_range.specs.Inside.Numbers.{lesser_of, greater_of, Three, Numbers};
 
 use sdf::Aabb;
-use vec::Vec3;
+use vectors::Vec3;
 
 // A box's floats in a table.
 pub const BOX_FLOATS: usize = 8;
@@ -22,14 +22,14 @@ const LEAF_MOST: usize = 4;
 const NARROWEST: f32 = 0.000000001;
 
 // The box of a range and the box of its centres.
-#[derive(Drop)]
+#[derive(Clone, Copy)]
 pub struct Span {
     pub hull: Aabb,
     pub centres: Aabb,
 }
 
 // A corner and a spare: four floats are worked on at once, three one by one.
-#[derive(Drop)]
+#[derive(Clone, Copy)]
 pub struct Four {
     pub x: f32,
     pub y: f32,
@@ -38,7 +38,7 @@ pub struct Four {
 }
 
 // A box as it lies in a table.
-#[derive(Drop)]
+#[derive(Clone, Copy)]
 pub struct Row {
     pub lo: Four,
     pub hi: Four,

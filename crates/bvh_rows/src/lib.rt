@@ -10,7 +10,7 @@ ghost use Rattle.bvh_boxes.specs.Boxes.{box_at, boxes_of};
 
 use plan::{Floats, Words};
 use sdf::Aabb;
-use vec::Vec3;
+use vectors::Vec3;
 
 // The box of half size h around c, widened by e.
 fn spread(c: Vec3, h: Vec3, e: f32) -> Aabb

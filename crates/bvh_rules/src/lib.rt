@@ -10,7 +10,7 @@ ghost use Rattle.bvh_rules.specs.Nodes.{nodes_of, order_of, node_at};
 
 use plan::{Floats, Words};
 use sdf::Aabb;
-use vec::Vec3;
+use vectors::Vec3;
 
 // A node's words, how many nodes there may be, and how many places the order has.
 pub const NODE_WORDS: usize = 9;
@@ -24,7 +24,7 @@ pub const LEVELS: usize = 64;
 
 pub const LEVELS_MOST: usize = 256;
 
-#[derive(Drop)]
+#[derive(Clone, Copy)]
 pub struct Node {
     pub hull: Aabb,
     pub start: u32,
@@ -33,7 +33,7 @@ pub struct Node {
 }
 
 // What a node is: a leaf with the next place and its end, or an interior node with the places of its children.
-#[derive(Drop)]
+#[derive(Clone, Copy)]
 pub enum Kind {
     Wrong,
     Leaf(u32, usize),
@@ -41,7 +41,7 @@ pub enum Kind {
 }
 
 // A subtree: the first place after it, and where its last leaf ends.
-#[derive(Drop)]
+#[derive(Clone, Copy)]
 pub enum Sub {
     Bad,
     Good(u32, usize),

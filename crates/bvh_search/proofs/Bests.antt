@@ -2,7 +2,7 @@
 -- passed over is nearer. Each step keeps that, since a best that is a number only goes down. Assumes nothing.
 use Rattle.std.proofs.Common.{◌≡◌, ℕ, zero, suc, Bool, true, false, cond, T, ◌⊎◌, List, [], ◌∷◌, ◌++◌, refl, ◌∙◌, inl, inr, append_assoc, append-nil}
 use lib.Ieee.{Float, lt, le, eq}
-use Rattle.vec.specs.declared.Vec3.{Vec3}
+use Rattle.vectors.specs.declared.Vec3.{Vec3}
 use Rattle.words.specs.Lists.{list_from}
 use Rattle.float_order.specs.Inside.Order.{less_of}
 use Rattle.float_order.proofs.Order.{number_eq, le_left, le_refl, le_trans}

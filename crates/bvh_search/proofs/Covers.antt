@@ -3,7 +3,7 @@
 use Rattle.std.proofs.Common.{ℕ, zero, suc, ◌+◌, ◌<◌, ◌≤◌, ◌⊎◌, List, [], ◌∷◌, ◌++◌, refl, inl, inr, arith}
 use native.Mathlib.Decide.{dec_le}
 use lib.Ieee.{Float}
-use Rattle.vec.specs.declared.Vec3.{Vec3}
+use Rattle.vectors.specs.declared.Vec3.{Vec3}
 use Rattle.words.specs.Lists.{list_from}
 use Rattle.bvh_rules.specs.Rules.{Tree, leaf, node, weight, place}
 use Rattle.bvh_search.specs.Walk.{Passed, Walk, more, skip, visit}

@@ -2,7 +2,7 @@
 -- nothing.
 use Rattle.std.proofs.Common.{◌≡◌, ℕ, ◌+◌, ◌-◌, ◌<◌, ◌≤◌, List, refl, add-one, arith}
 use lib.Ieee.{Float}
-use Rattle.vec.specs.declared.Vec3.{Vec3}
+use Rattle.vectors.specs.declared.Vec3.{Vec3}
 use Rattle.words.specs.Lists.{list_from}
 use Rattle.words.proofs.Runs.{from_snoc}
 use Rattle.plan.specs.declared.DistHit.{DistHit}

@@ -4,8 +4,8 @@ use Rattle.std.proofs.Common.{◌≡◌, ℕ, zero, suc, ◌+◌, ◌-◌, ◌*�
 use lib.Ieee.{Float, nan, lt, le}
 use borrow.Author.Tests.{eqb-false}
 use Rattle.root.specs.Root.{root_of}
-use Rattle.vec.specs.declared.Vec3.{Vec3}
-use Rattle.vec.specs.Vec.{vlength}
+use Rattle.vectors.specs.declared.Vec3.{Vec3}
+use Rattle.vectors.specs.Vec.{vlength}
 use Rattle.sdf.specs.Boxes.{box_dist}
 use Rattle.plan.specs.declared.DistHit.{DistHit}
 use Rattle.bvh_rules.specs.declared.Node.{Node}

@@ -2,7 +2,7 @@
 -- the first such law: each node is popped, and each place seen, at most once. Assumes nothing.
 use Rattle.std.proofs.Common.{◌≡◌, ℕ, ◌+◌, ◌≤◌, Bool, true, false, cond, T, List, ◌++◌, length, refl, arith, length-append}
 use lib.Ieee.{Float, lt, le}
-use Rattle.vec.specs.declared.Vec3.{Vec3}
+use Rattle.vectors.specs.declared.Vec3.{Vec3}
 use Rattle.sdf.specs.declared.Aabb.{Aabb}
 use Rattle.sdf.specs.Boxes.{box_dist}
 use Rattle.words.specs.Lists.{list_from}

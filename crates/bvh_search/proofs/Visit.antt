@@ -3,7 +3,7 @@
 -- one pop for each node of the tree at most is gone. Assumes nothing.
 use Rattle.std.proofs.Common.{◌≡◌, ℕ, zero, suc, ◌+◌, ◌-◌, ◌<◌, ◌≤◌, min, Bool, true, false, cond, List, [], ◌∷◌, length, refl, ◌∙◌, add-zero, arith, le-ltb, lt-ltb, ne_eqb}
 use lib.Ieee.{Float, lt, le}
-use Rattle.vec.specs.declared.Vec3.{Vec3}
+use Rattle.vectors.specs.declared.Vec3.{Vec3}
 use Rattle.sdf.specs.declared.Aabb.{Aabb}
 use Rattle.sdf.specs.Boxes.{box_dist}
 use Rattle.plan.specs.declared.DistHit.{DistHit}

@@ -4,7 +4,7 @@
 -- is `demand-met` of proofs/Demand.antt.
 use Rattle.std.specs.Prelude.{◌≡◌, ℕ, ◌+◌, ◌<◌, ◌≤◌, true, T, ◌⊎◌, List, [], ◌∷◌, length, Float}
 use Rattle.std.specs.Float.Ieee.{le, eq}
-use Rattle.vec.specs.declared.Vec3.{Vec3}
+use Rattle.vectors.specs.declared.Vec3.{Vec3}
 use Rattle.plan.specs.declared.DistHit.{DistHit}
 use Rattle.plan.specs.Nearest.{piece_dist}
 use Rattle.bvh_rules.specs.Rules.{Tree, weight}

@@ -1,6 +1,6 @@
 -- A plan's objects and its field, by the tree or by the list: "`dist_mat` takes planes in order, then objects".
 use Rattle.std.specs.Prelude.{ℕ, true, cond, List, ◌==◌, Float}
-use Rattle.vec.specs.declared.Vec3.{Vec3}
+use Rattle.vectors.specs.declared.Vec3.{Vec3}
 use Rattle.plan.specs.declared.DistHit.{DistHit}
 use Rattle.plan.specs.Sections.{objects}
 use Rattle.plan.specs.Plan.{count_of, plan_of}

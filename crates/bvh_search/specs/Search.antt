@@ -2,7 +2,7 @@
 -- the left child when equal. It reports nodes popped and objects evaluated."
 use Rattle.std.specs.Prelude.{ℕ, zero, suc, ◌+◌, ◌-◌, min, Bool, true, false, cond, List, [], ◌∷◌, length, ◌==◌, nat_lt, Float}
 use Rattle.std.specs.Float.Ieee.{lt, le}
-use Rattle.vec.specs.declared.Vec3.{Vec3}
+use Rattle.vectors.specs.declared.Vec3.{Vec3}
 use Rattle.sdf.specs.Boxes.{box_dist}
 use Rattle.words.specs.Lists.{list_from}
 use Rattle.plan.specs.declared.DistHit.{DistHit}

@@ -2,7 +2,7 @@
 -- and the subtrees that it passes over.
 use Rattle.std.specs.Prelude.{ℕ, ◌+◌, cond, List, [], ◌∷◌, ◌++◌, Float}
 use Rattle.std.specs.Float.Ieee.{lt, le}
-use Rattle.vec.specs.declared.Vec3.{Vec3}
+use Rattle.vectors.specs.declared.Vec3.{Vec3}
 use Rattle.sdf.specs.Boxes.{box_dist}
 use Rattle.words.specs.Lists.{list_from}
 use Rattle.plan.specs.declared.DistHit.{DistHit}

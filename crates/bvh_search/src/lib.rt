@@ -20,7 +20,7 @@ ghost use Rattle.bvh_search.specs.Inside.Machine.{children_of, opened_of, step_o
 use bvh_rules::Node;
 use plan::{DistHit, Floats, Words};
 use sdf::Aabb;
-use vec::Vec3;
+use vectors::Vec3;
 
 // The stack of waiting nodes, and their keys. A search needs nothing of what they hold, so a march lends the same ones
 // each time, and they are made once.
@@ -46,7 +46,7 @@ const ENDED: u32 = 1;
 const FULL: u32 = 2;
 
 // The hit, nodes popped and objects evaluated; `whole` where neither the budget nor the room ran out.
-#[derive(Drop)]
+#[derive(Clone, Copy)]
 pub struct Searched {
     pub hit: DistHit,
     pub popped: u32,
@@ -55,7 +55,7 @@ pub struct Searched {
 }
 
 // A leaf's objects: the best hit, and how many were evaluated.
-#[derive(Drop)]
+#[derive(Clone, Copy)]
 pub struct Scan {
     pub hit: DistHit,
     pub evaluated: u32,
@@ -63,7 +63,7 @@ pub struct Scan {
 
 // The node in hand with its key, which is the square of its box distance, an f32 held as f64; how many wait; the best
 // hit with the limit of its distance; and how the search stands.
-#[derive(Drop)]
+#[derive(Clone, Copy)]
 pub struct State {
     pub at: u32,
     pub key: f64,
@@ -105,7 +105,7 @@ fn square_at(ws: &Words, fs: &Floats, p: Vec3, at: u32) -> f32
 }
 
 // The squares of two nodes.
-#[derive(Drop)]
+#[derive(Clone, Copy)]
 pub struct Pair {
     pub l: f32,
     pub r: f32,

@@ -1,8 +1,8 @@
 // Pieces by value, and as the words of a call's arguments.
-use vec::Vec3;
+use vectors::Vec3;
 
 // A round box (kind 1) has a middle, half sizes and the radius of its edges; a capsule (kind 3) two ends and a radius.
-#[derive(Drop)]
+#[derive(Clone, Copy)]
 pub struct Solid {
     pub kind: u32,
     pub a: Vec3,
@@ -11,7 +11,7 @@ pub struct Solid {
 }
 
 // A solid less the first so many of three others.
-#[derive(Drop)]
+#[derive(Clone, Copy)]
 pub struct Piece {
     pub material: u32,
     pub body: Solid,

@@ -1,7 +1,7 @@
 // The classroom, in metres: x goes along the board's wall, y up, z from the board to the back.
 use crate::pieces::{Piece, at, bar, block, less};
 use crate::{pieces, text};
-use vec::Vec3;
+use vectors::Vec3;
 
 pub const WALL: u32 = 0;
 

@@ -2,7 +2,7 @@
 use crate::pieces::at;
 use crate::{pieces, room};
 
-#[derive(Drop)]
+#[derive(Clone, Copy)]
 pub struct Light {
     // What the call sent: 0, or why it was refused.
     pub number: u32,

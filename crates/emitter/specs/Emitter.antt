@@ -3,8 +3,8 @@
 use Rattle.std.specs.Prelude.{Bool, true, cond, ◌&&◌, List, [], ◌∷◌, Float}
 use Rattle.std.specs.Float.Ieee.{lt}
 use Rattle.scalar.specs.F32.{f0}
-use Rattle.vec.specs.declared.Vec3.{Vec3}
-use Rattle.vec.specs.Vec.{vdot}
+use Rattle.vectors.specs.declared.Vec3.{Vec3}
+use Rattle.vectors.specs.Vec.{vdot}
 use Rattle.plan.specs.declared.QuadLight.{QuadLight}
 use Rattle.quad.specs.declared.Crossing.{Crossing}
 use Rattle.quad.specs.declared.Crossing.TheVariants.{Apart, At}

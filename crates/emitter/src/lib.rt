@@ -8,10 +8,10 @@ ghost use Rattle.emitter.specs.Emitter.{nearer_than, shows_of, emitter_step};
 use panel::Panel;
 use plan::QuadLight;
 use quad::Crossing;
-use vec::Vec3;
+use vectors::Vec3;
 
 // The panel that a ray meets first on its emitting side.
-#[derive(Drop)]
+#[derive(Clone, Copy)]
 pub enum Emitted {
     Nothing,
     Shows(f32, Vec3),

@@ -9,7 +9,7 @@ use lib.Dec.{leb, eqb}
 use lib.Ieee.{Float}
 use lib.Ieee.Nearest.{div_mono}
 use borrow.Author.Tests.{leb-true, le-leb}
-use Rattle.vec.specs.declared.Vec3.{Vec3}
+use Rattle.vectors.specs.declared.Vec3.{Vec3}
 use Rattle.words.proofs.Runs.{length_from}
 use Rattle.refusals.specs.Refusals.{lower}
 use Rattle.bemitondry_emitter.specs.Emitter.{records_ok, records_in, lent_light, lent_lights, emitter_number, emitter_reply}

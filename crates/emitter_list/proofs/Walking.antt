@@ -38,11 +38,11 @@ use denote.Triple.Entry.{alive}
 use denote.Triple.Spec.{Back, exits}
 use denote.Triple.Walked.{Stays, stay_none_slice, stay_none, AllGo, Goes-none_slice, Goes-none}
 use denote.Exit.{yes}
-use Rattle.vec.specs.declared.Vec3.{Vec3}
+use Rattle.vectors.specs.declared.Vec3.{Vec3}
 use Rattle.plan.specs.declared.QuadLight.{QuadLight}
 use Rattle.plan.specs.Records.{no_vec}
-use Rattle.vec.specs.contracts.Vec3 as P
-use Rattle.vec.proofs.Vec3.TheLaws as P'
+use Rattle.vectors.specs.contracts.Vec3 as P
+use Rattle.vectors.proofs.Vec3.TheLaws as P'
 use Rattle.plan.specs.contracts.QuadLight as T
 use Rattle.plan.proofs.QuadLight.TheLaws as T'
 

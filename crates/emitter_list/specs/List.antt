@@ -1,6 +1,6 @@
 -- "`emitter_hit` tests each lent record as on entry" (1, 4), and more than 16 get 2: then no record is judged.
 use Rattle.std.specs.Prelude.{ℕ, Bool, cond, List, [], length, leb, Float}
-use Rattle.vec.specs.declared.Vec3.{Vec3}
+use Rattle.vectors.specs.declared.Vec3.{Vec3}
 use Rattle.refusals.specs.Refusals.{bad_number, no_room, unless, lower, lowest_of}
 use Rattle.plan.specs.declared.QuadLight.{QuadLight}
 use Rattle.record_test.specs.Numbers.{light_number}

@@ -13,7 +13,7 @@ ghost use Rattle.emitter_list.specs.List.{asked_number, list_reply};
 use emitter::Emitted;
 use plan::QuadLight;
 use reply::Reply;
-use vec::Vec3;
+use vectors::Vec3;
 
 // What n lights and a ray get, whatever the lights are.
 fn asked_number(n: usize, ro: Vec3, rd: Vec3, tmax: f32) -> u32

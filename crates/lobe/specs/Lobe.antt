@@ -5,8 +5,8 @@ use Rattle.std.specs.Float.Ieee.{le, lt, eq}
 use Rattle.scalar.specs.F32.{◌⊕◌, ◌⊗◌, ◌⊘◌, f0, f1, f2, f1e_3, f1e_4, f1e_6}
 use Rattle.scalar.specs.Extremes.{fmax, clamp_of}
 use Rattle.scalar.specs.Signs.{abs_of}
-use Rattle.vec.specs.declared.Vec3.{Vec3}
-use Rattle.vec.specs.Vec.{vadd, vsub, vmul, vscale, vneg, vdot, vlength, vnormalize}
+use Rattle.vectors.specs.declared.Vec3.{Vec3}
+use Rattle.vectors.specs.Vec.{vadd, vsub, vmul, vscale, vneg, vdot, vlength, vnormalize}
 use Rattle.plan.specs.declared.Material.{Material}
 use Rattle.quad.specs.Meets.{closest_of}
 use Rattle.bsdf.specs.Bsdf.{fresnel_of, d_ggx_of, v_smith_of, f0_of, diffuse_albedo_of}

@@ -8,10 +8,10 @@ ghost use Rattle.lobe.specs.Lobe.{view_of, mirror_of, toward_of, rep_of, wide_of
 use panel::Panel;
 use plan::Material;
 use reach::Site;
-use vec::Vec3;
+use vectors::Vec3;
 
 // A view of a surface: the cosine, the lobe's width, and the shares of the lobe and of the rest.
-#[derive(Drop)]
+#[derive(Clone, Copy)]
 pub struct View {
     pub v: Vec3,
     pub nv: f32,

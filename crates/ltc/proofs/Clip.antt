@@ -7,7 +7,7 @@ use mathlib.Core.Bool.{Bool, true, false, not, cond, beq}
 use mathlib.Core.List.{[], ◌∷◌, ◌++◌}
 use native.Mathlib.Omega.{arith}
 use lib.ListN.{length, length-append, length-take}
-use Rattle.vec.specs.declared.Vec3.{Vec3}
+use Rattle.vectors.specs.declared.Vec3.{Vec3}
 use Rattle.quad.specs.declared.Quad.{Quad}
 use Rattle.ltc.specs.FormFactor.{above, crossing_of, clip_edge, clipped, clip_of}
 

@@ -7,7 +7,7 @@ use native.Mathlib.Omega.{arith}
 use lib.ListN.{length, take, length-take}
 use lib.Seq.{take_all}
 use Rattle.scalar.specs.F32.{f0}
-use Rattle.vec.specs.declared.Vec3.{Vec3}
+use Rattle.vectors.specs.declared.Vec3.{Vec3}
 use Rattle.quad.specs.declared.Quad.{Quad}
 use Rattle.ltc.specs.declared.Corners.{Corners}
 use Rattle.ltc.specs.FormFactor.{clip_edge, clipped, clip_of, ring_of}

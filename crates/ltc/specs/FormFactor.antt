@@ -7,8 +7,8 @@ use Rattle.std.specs.Float.Ieee.{neg, le, lt}
 use Rattle.scalar.specs.F32.{◌⊕◌, ◌⊖◌, ◌⊗◌, ◌⊘◌, f0, f1, fturn, f1e_9}
 use Rattle.scalar.specs.Extremes.{fmax, clamp_of}
 use Rattle.scalar.specs.Acos.{acos_of}
-use Rattle.vec.specs.declared.Vec3.{Vec3}
-use Rattle.vec.specs.Vec.{vadd, vsub, vscale, vover, vdot, vcross, vlength}
+use Rattle.vectors.specs.declared.Vec3.{Vec3}
+use Rattle.vectors.specs.Vec.{vadd, vsub, vscale, vover, vdot, vcross, vlength}
 use Rattle.quad.specs.declared.Quad.{Quad}
 
 -- the clip: corners at or above the horizon, and where an edge crosses it

@@ -3,8 +3,8 @@
 use Rattle.std.specs.Prelude.{cond, Float}
 use Rattle.std.specs.Float.Ieee.{neg, le}
 use Rattle.scalar.specs.F32.{◌⊕◌, ◌⊗◌, ◌⊘◌, f0, f1}
-use Rattle.vec.specs.declared.Vec3.{Vec3}
-use Rattle.vec.specs.Vec.{vsub, vdot}
+use Rattle.vectors.specs.declared.Vec3.{Vec3}
+use Rattle.vectors.specs.Vec.{vsub, vdot}
 use Rattle.quad.specs.declared.Quad.{Quad}
 use Rattle.ltc.specs.declared.Axes.{Axes}
 

@@ -10,17 +10,17 @@ ghost use Rattle.ltc.specs.FormFactor.{form_factor_of};
 ghost use Rattle.ltc.specs.Inside.Corners.{corners_in};
 
 use quad::Quad;
-use vec::Vec3;
+use vectors::Vec3;
 
 // Two directions across a normal.
-#[derive(Drop)]
+#[derive(Clone, Copy)]
 pub struct Axes {
     pub tan: Vec3,
     pub bit: Vec3,
 }
 
 // The first n of five corners.
-#[derive(Drop)]
+#[derive(Clone, Copy)]
 pub struct Corners {
     pub n: u32,
     pub c0: Vec3,

@@ -4,8 +4,8 @@ use Rattle.std.specs.Float.Ieee.{le, eq}
 use Rattle.root.specs.Root.{root_of}
 use Rattle.scalar.specs.F32.{◌⊘◌, f0, fpi, f1e_4}
 use Rattle.scalar.specs.Extremes.{fmax}
-use Rattle.vec.specs.declared.Vec3.{Vec3}
-use Rattle.vec.specs.Vec.{vsub, vneg, vdot, vlength, vnormalize}
+use Rattle.vectors.specs.declared.Vec3.{Vec3}
+use Rattle.vectors.specs.Vec.{vsub, vneg, vdot, vlength, vnormalize}
 use Rattle.refusals.specs.Refusals.{at_light, lowest_of}
 use Rattle.plan.specs.declared.QuadLight.{QuadLight}
 use Rattle.quad.specs.declared.Quad.{Quad}

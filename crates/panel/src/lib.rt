@@ -7,10 +7,10 @@ ghost use Rattle.panel.specs.Panels.{panel_of, culled_of, radius_of, at_light_nu
 
 use plan::QuadLight;
 use quad::Quad;
-use vec::Vec3;
+use vectors::Vec3;
 
 // A light as shading uses it.
-#[derive(Drop)]
+#[derive(Clone, Copy)]
 pub struct Panel {
     pub quad: Quad,
     pub center: Vec3,

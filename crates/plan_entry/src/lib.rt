@@ -15,7 +15,7 @@ ghost use Rattle.refusals.specs.Refusals.{unless, lower, no_room};
 use plan::{Floats, Words};
 use plan_test::Solids;
 
-#[derive(Drop)]
+#[derive(Clone, Copy)]
 pub enum Added {
     Refused(u32),
     Done(u32),

@@ -10,7 +10,7 @@ use native.Mathlib.Omega.{arith}
 use lib.Dec.{T}
 use lib.Ieee.{Float, neg, lt, le}
 use Rattle.scalar.specs.Extremes.{fmax}
-use Rattle.vec.specs.declared.Vec3.{Vec3}
+use Rattle.vectors.specs.declared.Vec3.{Vec3}
 use Rattle.float_order.specs.Inside.Order.{number}
 use Rattle.float_order.proofs.Order.{yes_of, is_yes, is_not, not_of, le_left, le_right, le_refl, le_trans, lt_left}
 use Rattle.float_order.proofs.Order.{lt_right, lt_irrefl, lt_not_le, lt_of_not_le, lt_le_trans, neg_number, neg_le}

@@ -11,8 +11,8 @@ use borrow.Author.Tests.{ne_eqb}
 use lib.ListN.{length}
 use lib.Ieee.{Float, nan, inf, fin, binary32, add, sub, neg, lt, le, eq}
 use Rattle.scalar.specs.Extremes.{fmax}
-use Rattle.vec.specs.declared.Vec3.{Vec3}
-use Rattle.vec.specs.Vec.{vsub, vdot, vlength}
+use Rattle.vectors.specs.declared.Vec3.{Vec3}
+use Rattle.vectors.specs.Vec.{vsub, vdot, vlength}
 use Rattle.sdf.specs.declared.Shape.{Shape}
 use Rattle.sdf.specs.declared.Shape.TheVariants.{Cone}
 use Rattle.sdf.specs.Shapes.{sphere, plane, dist_of}

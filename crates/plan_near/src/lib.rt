@@ -15,7 +15,7 @@ ghost use Rattle.plan.specs.Plan.{cuts_by, piece_at, pieces_from, plan_of};
 ghost use Rattle.plan.specs.Nearest.{cut_by, carve, piece_dist, hit_of, closer, nearest, nothing, list_hit};
 
 use plan::{DistHit, Floats, Words};
-use vec::Vec3;
+use vectors::Vec3;
 
 // The kind of a plane.
 const PLANE: u32 = 2;

@@ -15,7 +15,7 @@ ghost use Rattle.plan_test.specs.Inside.Flat.{cuts_flat};
 use plan::{Floats, Words};
 
 // Pieces: what their own words get, whether every place is right, and how many places they use.
-#[derive(Drop)]
+#[derive(Clone, Copy)]
 pub struct Tally {
     pub number: u32,
     pub placed: bool,
@@ -23,7 +23,7 @@ pub struct Tally {
 }
 
 // What planes and objects get, and how many places each of the two lists uses.
-#[derive(Drop)]
+#[derive(Clone, Copy)]
 pub struct Solids {
     pub number: u32,
     pub planes: u64,

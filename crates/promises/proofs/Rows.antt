@@ -9,8 +9,8 @@ use Rattle.root.specs.Root.{root_of}
 use Rattle.scalar.specs.F32.{f0, fhalf, f1, f2}
 use Rattle.scalar.specs.Extremes.{fmin, fmax, clamp_of}
 use Rattle.scalar.specs.Signs.{abs_of, signum_of}
-use Rattle.vec.specs.declared.Vec3.{Vec3}
-use Rattle.vec.specs.Vec.{vsplat, vadd, vsub, vscale, vdot, vlength, vmax, vabs}
+use Rattle.vectors.specs.declared.Vec3.{Vec3}
+use Rattle.vectors.specs.Vec.{vsplat, vadd, vsub, vscale, vdot, vlength, vmax, vabs}
 use Rattle.sdf.specs.declared.Shape.{Shape}
 use Rattle.sdf.specs.declared.Shape.TheVariants.{Sphere, RoundBox, Plane, Capsule, Torus, Cylinder, Cone}
 use Rattle.sdf.specs.Shapes.{sphere, round_box, plane, capsule, torus, dist_of, beyond, cylinder_square, cylinder_body}

@@ -4,7 +4,7 @@
 -- worked out to be no nearer than that answer": of the exported calls, on bytes. Definitions only; the theorem is
 -- `demand-three` of proofs/Demand3.antt.
 use Rattle.std.specs.Prelude.{ℕ, ◌<◌, ◌≤◌, ◌≡◌, ◌↔◌, ◌⊎◌, true, List, [], ◌∷◌, map, length}
-use Rattle.vec.specs.declared.Vec3.{Vec3}
+use Rattle.vectors.specs.declared.Vec3.{Vec3}
 use Rattle.words.specs.Lists.{All}
 use Rattle.words.specs.Words.{sent_words}
 use Rattle.refusals.specs.Refusals.{bad_tree, too_deep, no_tree}

@@ -6,8 +6,8 @@ use Rattle.scalar.specs.F32.{◌⊘◌, f0, f1, f1e_4, f1e_9}
 use Rattle.scalar.specs.Extremes.{clamp_of}
 use Rattle.scalar.specs.Signs.{abs_of}
 use Rattle.scalar.specs.Ranges.{between}
-use Rattle.vec.specs.declared.Vec3.{Vec3}
-use Rattle.vec.specs.Vec.{vadd, vsub, vscale, vdot}
+use Rattle.vectors.specs.declared.Vec3.{Vec3}
+use Rattle.vectors.specs.Vec.{vadd, vsub, vscale, vdot}
 use Rattle.quad.specs.declared.Quad.{Quad}
 use Rattle.quad.specs.declared.Crossing.{Crossing}
 use Rattle.quad.specs.declared.Crossing.TheVariants.{Apart, At}

@@ -2,8 +2,8 @@
 -- times 0.25; `area`'s second triangle starts at corner 2".
 use Rattle.std.specs.Prelude.{Float}
 use Rattle.scalar.specs.F32.{◌⊕◌, ◌⊗◌, fhalf, fquarter}
-use Rattle.vec.specs.declared.Vec3.{Vec3}
-use Rattle.vec.specs.Vec.{vadd, vsub, vscale, vcross, vlength, vnormalize}
+use Rattle.vectors.specs.declared.Vec3.{Vec3}
+use Rattle.vectors.specs.Vec.{vadd, vsub, vscale, vcross, vlength, vnormalize}
 use Rattle.quad.specs.declared.Quad.{Quad}
 
 abbrev pub edge1 : Quad → Vec3  -- the two edges at corner 0, and their cross product

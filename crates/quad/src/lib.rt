@@ -6,10 +6,10 @@ ghost use Rattle.std.specs.Prelude.{◌≡◌};
 ghost use Rattle.quad.specs.Quad.{spanned, center_of, normal_of, area_of};
 ghost use Rattle.quad.specs.Meets.{within_edge, inside_of, ahead_of, intersect_of, closest_of};
 
-use vec::Vec3;
+use vectors::Vec3;
 
 // Corners counter-clockwise, seen from the emitting side; they need not lie in one plane.
-#[derive(Drop)]
+#[derive(Clone, Copy)]
 pub struct Quad {
     pub v0: Vec3,
     pub v1: Vec3,
@@ -18,7 +18,7 @@ pub struct Quad {
 }
 
 // Where a ray meets a quad, if it does.
-#[derive(Drop)]
+#[derive(Clone, Copy)]
 pub enum Crossing {
     Apart,
     At(f32),

@@ -3,8 +3,8 @@ use Rattle.std.specs.Prelude.{cond, Float}
 use Rattle.std.specs.Float.Ieee.{le}
 use Rattle.scalar.specs.F32.{◌⊖◌, ◌⊗◌, ◌⊘◌, f96, f1·25, f1·5, f0·015, f0·05, f3e_3, f1e_4, f1e_6}
 use Rattle.scalar.specs.Extremes.{fmax, clamp_of}
-use Rattle.vec.specs.declared.Vec3.{Vec3}
-use Rattle.vec.specs.Vec.{vadd, vsub, vscale, vover, vlength}
+use Rattle.vectors.specs.declared.Vec3.{Vec3}
+use Rattle.vectors.specs.Vec.{vadd, vsub, vscale, vover, vlength}
 use Rattle.ltc.specs.Frame.{frame_of, to_local_of}
 use Rattle.ltc.specs.FormFactor.{form_factor_of}
 use Rattle.trace.specs.declared.Shadow.{Shadow}

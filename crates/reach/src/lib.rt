@@ -10,10 +10,10 @@ use ltc::Axes;
 use panel::Panel;
 use plan::{Floats, Words};
 use trace::Shadow;
-use vec::Vec3;
+use vectors::Vec3;
 
 // A point of a surface with its normal, and the frame about that.
-#[derive(Drop)]
+#[derive(Clone, Copy)]
 pub struct Site {
     pub p: Vec3,
     pub n: Vec3,
@@ -21,7 +21,7 @@ pub struct Site {
 }
 
 // How much of a panel a site sees: its share of the hemisphere, what no shadow takes, and the panel's radius.
-#[derive(Drop)]
+#[derive(Clone, Copy)]
 pub struct Sight {
     pub ff: f32,
     pub vis: f32,
@@ -29,7 +29,7 @@ pub struct Sight {
 }
 
 // Whether a panel reaches a site, and the evaluations that its shadow took.
-#[derive(Drop)]
+#[derive(Clone, Copy)]
 pub enum Reach {
     Shut(u32),
     Open(Sight, u32),

@@ -6,7 +6,7 @@ use mathlib.Core.Logic.{◌↔◌}
 use mathlib.Core.Bool.{Bool, true, false, not, ◌&&◌, beq, and-eq-true_iff, true≢false, false≢true}
 use lib.Dec.{leb, ltb, eqb}
 use borrow.Author.Tests.{leb-true, ltb-true, not-true, le-leb, lt-ltb}
-use Rattle.vec.specs.Vec.{vsub}
+use Rattle.vectors.specs.Vec.{vsub}
 use Rattle.sdf.specs.declared.Shape.{Shape}
 use Rattle.words.specs.Lists.{All}
 use Rattle.refusals.specs.Refusals.{unless, lower}

@@ -8,8 +8,8 @@ use borrow.Author.Tests.{ne_eqb, lt-leb}
 use lib.Ieee.{Float, neg, le}
 use Rattle.scalar.specs.F32.{f0}
 use Rattle.scalar.specs.Ranges.{between, magnitude}
-use Rattle.vec.specs.declared.Vec3.{Vec3}
-use Rattle.vec.specs.Vec.{vsub}
+use Rattle.vectors.specs.declared.Vec3.{Vec3}
+use Rattle.vectors.specs.Vec.{vsub}
 use Rattle.refusals.specs.Refusals.{bad_number, no_extent, unless, lower}
 use Rattle.refusals.specs.Ranges.{far, steep, up_to, within, within_up_to, coordinates, radius}
 use Rattle.refusals.specs.Prims.{shape_of, shape_ok, no_length, flat, prim_number}

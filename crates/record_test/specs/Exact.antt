@@ -1,6 +1,6 @@
 -- What a record is where an entry takes it: the statement that the tests of records are held to.
 use Rattle.std.specs.Prelude.{ℕ, ◌≤◌, ◌<◌, ◌≡◌, Bool, false, T, eqb}
-use Rattle.vec.specs.Vec.{vsub}
+use Rattle.vectors.specs.Vec.{vsub}
 use Rattle.sdf.specs.declared.Shape.{Shape}
 use Rattle.refusals.specs.Ranges.{far, coordinates, within_up_to, radius}
 use Rattle.refusals.specs.Prims.{shape_ok, flat}

@@ -3,8 +3,8 @@ use Rattle.std.specs.Prelude.{ℕ, Bool, not, ◌&&◌, ◌||◌, ltb, eqb}
 use Rattle.std.specs.Bool.{beq}
 use Rattle.std.specs.Float.Ieee.{eq}
 use Rattle.scalar.specs.F32.{f0, f1}
-use Rattle.vec.specs.declared.Vec3.{Vec3}
-use Rattle.vec.specs.Vec.{vsub, vcross, vlength}
+use Rattle.vectors.specs.declared.Vec3.{Vec3}
+use Rattle.vectors.specs.Vec.{vsub, vcross, vlength}
 use Rattle.refusals.specs.Refusals.{bad_number, no_material, no_extent, wrong_list, unless, lower, lowest_of}
 use Rattle.refusals.specs.Ranges.{far, up_to, within_up_to, coordinates, radius}
 use Rattle.refusals.specs.Prims.{no_length, prim_number}

@@ -6,7 +6,7 @@
 ghost use Rattle.std.specs.Prelude.{◌≡◌, true, not, ◌&&◌, ◌+◌, ◌<◌};
 ghost use Rattle.std.specs.Bool.{beq};
 ghost use Rattle.scalar.specs.Ranges.{magnitude};
-ghost use Rattle.vec.specs.Vec.{vsub};
+ghost use Rattle.vectors.specs.Vec.{vsub};
 ghost use Rattle.refusals.specs.Refusals.{lower, unless, bad_number, no_material, wrong_list, no_extent};
 ghost use Rattle.refusals.specs.Ranges.{far, steep, within, within_up_to, coordinates, radius};
 ghost use Rattle.refusals.specs.Prims.{no_length, prim_number};
@@ -18,7 +18,7 @@ ghost use Rattle.record_test.specs.Numbers.{own_number, piece_cuts};
 ghost use Rattle.record_test.specs.Inside.Prims.{prim_in, least_of, none_above, none_below};
 
 use plan::{Cutter, Floats, Head, Material, QuadLight, Words};
-use vec::Vec3;
+use vectors::Vec3;
 
 pub fn material_number(m: Material) -> u32
     ensures { result ≡ material_number m }

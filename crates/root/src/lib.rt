@@ -10,7 +10,7 @@ ghost use Rattle.root.specs.Inside.Steps.{expo, digs, Scaled, Remains, Nearest};
 
 // What the steps to a root hold: `twice`, double the digits found, and `left`, what their square leaves of the number,
 // counted in places of the next digit.
-#[derive(Drop)]
+#[derive(Clone, Copy)]
 struct Rest {
     left: u32,
     twice: u32,

@@ -14,7 +14,7 @@ use mir.Val.{Fits}
 use Rattle.scalar.specs.F32.{f1e_4, f1e_6}
 use Rattle.words.specs.Lists.{list_from}
 use Rattle.words.proofs.Runs.{from_snoc, length_from}
-use Rattle.vec.specs.declared.Vec3.{Vec3}
+use Rattle.vectors.specs.declared.Vec3.{Vec3}
 use Rattle.plan.specs.declared.Material.{Material}
 use Rattle.plan.specs.declared.QuadLight.{QuadLight}
 use Rattle.plan.specs.Sections.{lights}

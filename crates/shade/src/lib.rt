@@ -13,10 +13,10 @@ use lobe::View;
 use panel::Panel;
 use plan::{Floats, Material, QuadLight, Words};
 use reach::{Reach, Sight, Site};
-use vec::Vec3;
+use vectors::Vec3;
 
 // Light sent back, and the evaluations that it took.
-#[derive(Drop)]
+#[derive(Clone, Copy)]
 pub struct Lit {
     pub light: Vec3,
     pub count: u32,

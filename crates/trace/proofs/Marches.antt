@@ -12,7 +12,7 @@ use lib.ListN.{length}
 use lib.Ieee.{Float, lt}
 use Rattle.scalar.specs.F32.{◌⊕◌}
 use Rattle.words.specs.Lists.{All}
-use Rattle.vec.specs.declared.Vec3.{Vec3}
+use Rattle.vectors.specs.declared.Vec3.{Vec3}
 use Rattle.plan.specs.declared.DistHit.{DistHit}
 use Rattle.trace.specs.declared.Hit.{Hit}
 use Rattle.trace.specs.declared.Step.{Step}

@@ -17,7 +17,7 @@ use Rattle.float_order.specs.Inside.Order.{number}
 use Rattle.float_order.proofs.Order.{not_of, is_yes, le_left, le_right, le_refl, le_of_not_lt}
 use Rattle.float_order.proofs.Extremes.{fmin_left}
 use Rattle.words.specs.Lists.{All}
-use Rattle.vec.specs.declared.Vec3.{Vec3}
+use Rattle.vectors.specs.declared.Vec3.{Vec3}
 use Rattle.trace.specs.declared.Cone.{Cone}
 use Rattle.trace.specs.declared.Passed.{Passed}
 use Rattle.trace.specs.declared.Passed.TheVariants.{Dark, Going}

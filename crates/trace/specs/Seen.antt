@@ -1,7 +1,7 @@
 -- The points that a march evaluates, in order: what its answer rests on, and its count their number.
 use Rattle.std.specs.Prelude.{ℕ, zero, suc, cond, List, [], ◌∷◌, Float}
 use Rattle.std.specs.Float.Ieee.{lt}
-use Rattle.vec.specs.declared.Vec3.{Vec3}
+use Rattle.vectors.specs.declared.Vec3.{Vec3}
 use Rattle.trace.specs.declared.Hit.{Hit}
 use Rattle.trace.specs.declared.Traced.{Traced}
 use Rattle.trace.specs.declared.Traced.TheVariants.{Met, Missed}

@@ -5,7 +5,7 @@ use Rattle.std.specs.Float.Ieee.{lt}
 use Rattle.root.specs.Root.{root_of}
 use Rattle.scalar.specs.F32.{◌⊕◌, ◌⊖◌, ◌⊗◌, ◌⊘◌, f0, f1, f2, f0·006, f0·12, f1e20, f1e_3, f1e_4}
 use Rattle.scalar.specs.Extremes.{fmin, fmax, clamp_of}
-use Rattle.vec.specs.declared.Vec3.{Vec3}
+use Rattle.vectors.specs.declared.Vec3.{Vec3}
 use Rattle.trace.specs.declared.Cone.{Cone}
 use Rattle.trace.specs.declared.Passed.{Passed}
 use Rattle.trace.specs.declared.Passed.TheVariants.{Dark, Going}

@@ -4,8 +4,8 @@ use Rattle.std.specs.Prelude.{ℕ, zero, suc, cond, Float}
 use Rattle.std.specs.Float.Ieee.{lt}
 use Rattle.scalar.specs.F32.{◌⊕◌, ◌⊗◌, f1, f1e_4}
 use Rattle.scalar.specs.Extremes.{fmax}
-use Rattle.vec.specs.declared.Vec3.{Vec3}
-use Rattle.vec.specs.Vec.{vadd, vscale}
+use Rattle.vectors.specs.declared.Vec3.{Vec3}
+use Rattle.vectors.specs.Vec.{vadd, vscale}
 use Rattle.plan.specs.declared.DistHit.{DistHit}
 use Rattle.trace.specs.declared.Hit.{Hit}
 use Rattle.trace.specs.declared.Step.{Step}

@@ -11,13 +11,13 @@ ghost use Rattle.trace.specs.Trace.{eps_of, point_at, stepped_of, trace_of};
 ghost use Rattle.trace.specs.Shadow.{darker_of, passed_of, seen_of, shadow_of};
 
 use plan::{DistHit, Floats, Words};
-use vec::Vec3;
+use vectors::Vec3;
 
 pub const MAX_STEPS: u32 = 128;
 
 pub const SHADOW_STEPS: u32 = 96;
 
-#[derive(Drop)]
+#[derive(Clone, Copy)]
 pub struct Hit {
     pub t: f32,
     pub p: Vec3,
@@ -25,14 +25,14 @@ pub struct Hit {
 }
 
 // What a ray meets, and how many evaluations that took.
-#[derive(Drop)]
+#[derive(Clone, Copy)]
 pub enum Traced {
     Met(Hit, u32),
     Missed(u32),
 }
 
 // One evaluation's outcome: a hit, past the end, or on from a parameter.
-#[derive(Drop)]
+#[derive(Clone, Copy)]
 pub enum Step {
     Found(Hit),
     Past,
@@ -40,21 +40,21 @@ pub enum Step {
 }
 
 // How much of a light is seen, from 0 to 1, and how many evaluations that took.
-#[derive(Drop)]
+#[derive(Clone, Copy)]
 pub struct Shadow {
     pub vis: f32,
     pub count: u32,
 }
 
 // What a shadow's march carries: what is left of the light, the distance before, the parameter.
-#[derive(Drop)]
+#[derive(Clone, Copy)]
 pub struct Cone {
     pub res: f32,
     pub ph: f32,
     pub t: f32,
 }
 
-#[derive(Drop)]
+#[derive(Clone, Copy)]
 pub enum Passed {
     Dark,
     Going(Cone),

@@ -2,7 +2,7 @@
 use Rattle.std.specs.Prelude.{ℕ, ◌+◌, cond, List, [], ◌++◌, length, leb, eqb, Float}
 use Rattle.std.specs.Float.{binary32}
 use Rattle.std.specs.Float.Ieee.{of_bits}
-use Rattle.vec.specs.declared.Vec3.{Vec3}
+use Rattle.vectors.specs.declared.Vec3.{Vec3}
 use Rattle.words.specs.Words.{word_at, words_of}
 use Rattle.plan.specs.Sections.{plan_words, args_words, nodes_words, order_places}
 use Rattle.wire_lengths.specs.Lengths.{plan_bytes, nodes_bytes, order_bytes}

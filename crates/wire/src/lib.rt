@@ -13,7 +13,7 @@ ghost use Rattle.wire.specs.Inside.Parts.{stored_front, stored_plan, stored_tabl
 
 use plan::{Floats, Nodes, Order, Words};
 use reply::Reply;
-use vec::Vec3;
+use vectors::Vec3;
 
 // The table, or nothing of it where it is short: its words are 0 then.
 pub fn lent(t: &[u8], full: usize) -> &[u8]

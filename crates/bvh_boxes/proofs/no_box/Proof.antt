@@ -1,5 +1,5 @@
 -- `bvh_boxes::no_box` meets its contract: 0 by 0 is NaN. Assumes nothing.
-use Rattle.vec.specs.Vec.{vsplat}
+use Rattle.vectors.specs.Vec.{vsplat}
 use Rattle.root.proofs.Nans.{zero_by_zero}
 use borrow.Author.Rules.{rules}
 use Rattle.bvh_boxes.proofs.no_box.Statement.{statement}

@@ -1,5 +1,5 @@
 -- `bvh_boxes::nowhere` meets its contract, by those of its calls. Assumes nothing.
-use Rattle.vec.specs.Vec.{vsplat}
+use Rattle.vectors.specs.Vec.{vsplat}
 use borrow.Author.Rules.{rules}
 use Rattle.bvh_boxes.proofs.nowhere.Statement.{statement}
 use Rattle.bvh_boxes.proofs.nowhere.Tie as tie

@@ -1,7 +1,7 @@
 -- What one call of the builder leaves, given room, and what the whole build leaves.
 use Rattle.std.specs.Prelude.{◌≡◌, ℕ, ◌+◌, ◌*◌, ◌<◌, ◌≤◌, false, List, length}
 use Rattle.scalar.specs.F32.{f0}
-use Rattle.vec.specs.Vec.{vsplat}
+use Rattle.vectors.specs.Vec.{vsplat}
 use Rattle.sdf.specs.declared.Aabb.{Aabb}
 use Rattle.plan.specs.Plan.{Plan}
 use Rattle.bvh_rules.specs.Rules.{size}

@@ -1,6 +1,6 @@
 -- `bvh_range::no_row` meets its contract, by those of its calls. Assumes nothing.
 use borrow.Author.Rules.{rules}
-use Rattle.vec.specs.Vec.{vsplat}
+use Rattle.vectors.specs.Vec.{vsplat}
 use Rattle.bvh_range.proofs.no_row.Statement.{statement}
 use Rattle.bvh_range.proofs.no_row.Tie as tie
 

@@ -1,7 +1,7 @@
 -- Corners that are numbers, and the lesser and the greater of a number and any float by one test.
 use Rattle.std.specs.Prelude.{cond, T, Float}
 use Rattle.std.specs.Float.Ieee.{le}
-use Rattle.vec.specs.declared.Vec3.{Vec3}
+use Rattle.vectors.specs.declared.Vec3.{Vec3}
 use Rattle.sdf.specs.declared.Aabb.{Aabb}
 use Rattle.float_order.specs.Inside.Order.{number}
 

@@ -1,7 +1,7 @@
 -- A table of boxes in floats, eight to a box: lo x y z and a spare, hi x y z and a spare.
 use Rattle.std.specs.Prelude.{ℕ, ◌+◌, ◌*◌, ◌/◌, cond, List, length, set, ltb, Float}
 use Rattle.scalar.specs.F32.{f0}
-use Rattle.vec.specs.declared.Vec3.{Vec3}
+use Rattle.vectors.specs.declared.Vec3.{Vec3}
 use Rattle.sdf.specs.declared.Aabb.{Aabb}
 use Rattle.words.specs.Lists.{list_from}
 use Rattle.plan.specs.Records.{float_of}

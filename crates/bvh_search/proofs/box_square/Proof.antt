@@ -1,5 +1,5 @@
 -- `bvh_search::box_square` meets its contract, by those of its calls. Assumes nothing.
-use Rattle.vec.specs.Vec.{vsplat, vsub, vmax}
+use Rattle.vectors.specs.Vec.{vsplat, vsub, vmax}
 use Rattle.bvh_search.specs.Inside.Machine.{box_square}
 use Rattle.std.proofs.Common.{rules}
 use Rattle.bvh_search.proofs.box_square.Statement.{statement}

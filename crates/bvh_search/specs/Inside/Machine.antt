@@ -4,8 +4,8 @@ use Rattle.std.specs.Prelude.{ℕ, ◌+◌, ◌-◌, ◌%◌, ◌^◌, cond, Lis
 use Rattle.std.specs.Float.{nan}
 use Rattle.root_tests.specs.Inside.Tests.{far_off, left_first, limit_of}
 use Rattle.scalar.specs.F32.{f0}
-use Rattle.vec.specs.declared.Vec3.{Vec3}
-use Rattle.vec.specs.Vec.{vsplat, vsub, vmax, vdot}
+use Rattle.vectors.specs.declared.Vec3.{Vec3}
+use Rattle.vectors.specs.Vec.{vsplat, vsub, vmax, vdot}
 use Rattle.sdf.specs.declared.Aabb.{Aabb}
 use Rattle.bvh_rules.specs.declared.Node.{Node}
 use Rattle.bvh_rules.specs.Nodes.{nodes_most, node_at}

@@ -46,15 +46,15 @@ use denote.Triple.Spec.{Meets, triple_of}
 use denote.Triple.Table.{entered, cited}
 use denote.Triple.Walked.{says, walk_of, Walks, ends_at}
 use denote.Triple.Walked.{walked, walk_Meets}
-use Rattle.vec.specs.declared.Vec3.{Vec3}
+use Rattle.vectors.specs.declared.Vec3.{Vec3}
 use Rattle.plan.specs.declared.QuadLight.{QuadLight}
 use Rattle.emitter.specs.declared.Emitted.{Emitted}
 use Rattle.emitter.specs.declared.Emitted.TheVariants.{Nothing}
 use Rattle.emitter.specs.Emitter.{emitter_step, emitter_from, emitter_of}
 use Rattle.plan.specs.contracts.QuadLight as T
 use Rattle.plan.proofs.QuadLight.TheLaws as T'
-use Rattle.vec.specs.contracts.Vec3 as P
-use Rattle.vec.proofs.Vec3.TheLaws as P'
+use Rattle.vectors.specs.contracts.Vec3 as P
+use Rattle.vectors.proofs.Vec3.TheLaws as P'
 use Rattle.emitter.specs.contracts.Emitted as B
 use Rattle.emitter.proofs.Emitted.TheLaws as B'
 use Rattle.emitter.specs.contracts.emitter_step as one'

@@ -45,7 +45,7 @@ use denote.Triple.Spec.{Meets, triple_of}
 use denote.Triple.Table.{entered, cited}
 use denote.Triple.Walked.{says, walk_of, Walks, ends_at}
 use denote.Triple.Walked.{walked, walk_Meets}
-use Rattle.vec.specs.declared.Vec3.{Vec3}
+use Rattle.vectors.specs.declared.Vec3.{Vec3}
 use Rattle.refusals.specs.Refusals.{lower, lowest_of}
 use Rattle.refusals.proofs.Lowest.{unless_zero, lower_zero, lower_none}
 use Rattle.plan.specs.declared.QuadLight.{QuadLight}
@@ -57,8 +57,8 @@ use Rattle.reply.specs.Reply.{refused_reply, reply_of}
 use Rattle.bemitondry_emitter.specs.Emitter.{emitted_reply}
 use Rattle.emitter_list.specs.List.{few, judged, asked_number, list_number, list_reply}
 use Rattle.plan.specs.contracts.QuadLight as T
-use Rattle.vec.specs.contracts.Vec3 as P
-use Rattle.vec.proofs.Vec3.TheLaws as P'
+use Rattle.vectors.specs.contracts.Vec3 as P
+use Rattle.vectors.proofs.Vec3.TheLaws as P'
 use Rattle.emitter.specs.contracts.Emitted as B
 use Rattle.emitter.proofs.Emitted.TheLaws as B'
 use Rattle.reply.specs.contracts.Reply as R

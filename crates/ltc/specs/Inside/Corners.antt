@@ -1,6 +1,6 @@
 -- The code's five places as a list: the first n of them.
 use Rattle.std.specs.Prelude.{List, [], ◌∷◌, take}
-use Rattle.vec.specs.declared.Vec3.{Vec3}
+use Rattle.vectors.specs.declared.Vec3.{Vec3}
 use Rattle.ltc.specs.declared.Corners.{Corners}
 
 unfoldable pub corners_in : Corners → List Vec3

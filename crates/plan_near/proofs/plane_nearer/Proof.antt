@@ -1,6 +1,6 @@
 -- `plan_near::plane_nearer` meets its contract: by what the distance tells, and past the last row there is no piece.
 -- Assumes nothing.
-use Rattle.vec.specs.declared.Vec3.{Vec3}
+use Rattle.vectors.specs.declared.Vec3.{Vec3}
 use Rattle.plan_near.proofs.Rows.{row_nearer}
 use borrow.Author.Rules.{rules}
 use Rattle.plan_near.proofs.plane_nearer.Statement.{statement}

@@ -11,7 +11,7 @@ use lib.Seq.{take_all}
 use lib.Ieee.{Float, of_bits, neg, lt, le, eq}
 use denote.Floats.{passes}
 use Rattle.scalar.specs.Ranges.{between, magnitude}
-use Rattle.vec.specs.declared.Vec3.{Vec3}
+use Rattle.vectors.specs.declared.Vec3.{Vec3}
 use Rattle.refusals.specs.Refusals.{unless, lower}
 use Rattle.refusals.specs.Ranges.{greatest, farthest, within}
 use Rattle.plan.specs.declared.DistHit.{DistHit}

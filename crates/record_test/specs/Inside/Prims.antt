@@ -2,7 +2,7 @@
 use Rattle.std.specs.Prelude.{ℕ, Bool, cond, ◌&&◌, eqb, Float}
 use Rattle.std.specs.Float.Ieee.{neg, le}
 use Rattle.scalar.specs.F32.{f0}
-use Rattle.vec.specs.declared.Vec3.{Vec3}
+use Rattle.vectors.specs.declared.Vec3.{Vec3}
 use Rattle.refusals.specs.Ranges.{far}
 use Rattle.refusals.specs.Prims.{shape_of, prim_number}
 

@@ -5,6 +5,5 @@ use Rattle.refusals.proofs.within.Goals as goal
 pub returns : goal.returns
 unfolding within
 returns c =
-    let b1 = c in let b2 = b1 in let b3 = b2 in let b4 = b3 in
-    rw (c.both-2.ensures, b1.both.ensures, b2.magnitude-3.ensures, b3.magnitude-2.ensures)
-    (rw b4.magnitude.ensures)
+    rw (c.both-2.ensures, c.both.ensures, c.magnitude-3.ensures, c.magnitude-2.ensures)
+    (rw c.magnitude.ensures)

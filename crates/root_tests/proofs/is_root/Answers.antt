@@ -28,23 +28,18 @@ float_to_bits-b c = no_nan c.args.r c.if-r.true
 
 pub float_from_bits-b : goal.float_from_bits-b
 float_from_bits-b c =
-    let i = c in
-    let r = i.args.r in
-    no_nan_bits (to_bits binary32 r + 1) (more (to_bits binary32 r) i.if-b-lt2139095039.true)
+    let r = c.args.r in
+    no_nan_bits (to_bits binary32 r + 1) (more (to_bits binary32 r) c.if-b-lt2139095039.true)
 
 pub returns-then-at_least : goal.returns-then-at_least
 returns-then-at_least c = λ e.
-    let l = c in
-    let i = l in
-    let j = i in
-    let s = j in
-    let x = s.args.x in
-    let r = s.args.r in
-    tested x r (usual_plain x (subst T (sym s.well_formed.0.1) tt) (sym j.usual.ensures ∙ j.if-usual.true))
-    (is_plain r (subst T (sym s.well_formed.1.0.1) tt) i.if-r.true (less (to_bits binary32 r) i.if-b-lt2139095039.true))
-    (more (to_bits binary32 r) i.if-b-lt2139095039.true)
-    (ap (λ (z : Float). le z x) (sym l.bar.ensures) ∙ sym l.at_least.ensures
-    ∙ l.if-at_least.true)
+    let x = c.args.x in
+    let r = c.args.r in
+    tested x r (usual_plain x (subst T (sym c.well_formed.0.1) tt) (sym c.usual.ensures ∙ c.if-usual.true))
+    (is_plain r (subst T (sym c.well_formed.1.0.1) tt) c.if-r.true (less (to_bits binary32 r) c.if-b-lt2139095039.true))
+    (more (to_bits binary32 r) c.if-b-lt2139095039.true)
+    (ap (λ (z : Float). le z x) (sym c.bar.ensures) ∙ sym c.at_least.ensures
+    ∙ c.if-at_least.true)
     (ap (λ (z : Float). le z x) (sym c.bar-then-at_least.ensures) ∙ sym c.at_least-then-at_least.ensures
     ∙ turned c.at_least-then-at_least.result e)
 

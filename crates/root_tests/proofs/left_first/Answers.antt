@@ -7,13 +7,11 @@ use Rattle.root_tests.proofs.left_first.Goals as goal
 
 pub returns-then-b-a : goal.returns-then-b-a
 returns-then-b-a c = λ ea eb hl hr.
-    let s = c in
-    right_first s.args.l s.args.r (subst T (sym s.well_formed.0.1) tt) (subst T (sym s.well_formed.1.0.1) tt) hl hr (rw (sym ea, sym eb) c.if-b-a.true)
+    right_first c.args.l c.args.r (subst T (sym c.well_formed.0.1) tt) (subst T (sym c.well_formed.1.0.1) tt) hl hr (rw (sym ea, sym eb) c.if-b-a.true)
 
 pub returns-then-a-b : goal.returns-then-a-b
 returns-then-a-b c = λ ea eb hl hr.
-    let s = c in
-    parted s.args.l s.args.r (subst T (sym s.well_formed.0.1) tt) (subst T (sym s.well_formed.1.0.1) tt) hl hr (rw (sym ea, sym eb) c.if-b-a.false)
+    parted c.args.l c.args.r (subst T (sym c.well_formed.0.1) tt) (subst T (sym c.well_formed.1.0.1) tt) hl hr (rw (sym ea, sym eb) c.if-b-a.false)
     (rw (sym ea, sym eb) c.if-a-b.true)
 
 pub returns : goal.returns

@@ -14,28 +14,20 @@ never e = absurd (false≢true e)
 
 pub float_to_float-result : goal.float_to_float-result
 float_to_float-result c =
-    let i = c in
-    let s = i in
-    cast_ok s.args.w (subst T (sym s.well_formed.1.0.1) tt) (equal_no_nan s.args.w i.if-w.true)
+    cast_ok c.args.w (subst T (sym c.well_formed.1.0.1) tt) (equal_no_nan c.args.w c.if-w.true)
 
 pub float_to_float-result-then-w : goal.float_to_float-result-then-w
 float_to_float-result-then-w c =
-    let i = c in
-    let s = i in
-    cast_ok s.args.w (subst T (sym s.well_formed.1.0.1) tt) (equal_no_nan s.args.w i.if-w.true)
+    cast_ok c.args.w (subst T (sym c.well_formed.1.0.1) tt) (equal_no_nan c.args.w c.if-w.true)
 
 pub float_to_float-result-then-w-2 : goal.float_to_float-result-then-w-2
 float_to_float-result-then-w-2 c =
-    let j = c in
-    let s = j in
-    cast_ok s.args.q (subst T (sym s.well_formed.0.1) tt)
-    (subst T (number_is s.args.q) (le_left s.args.q most (yes_of j.if-q.true)))
+    cast_ok c.args.q (subst T (sym c.well_formed.0.1) tt)
+    (subst T (number_is c.args.q) (le_left c.args.q most (yes_of c.if-q.true)))
 
 pub returns-then-w : goal.returns-then-w
 returns-then-w c = λ e.
-    let j = c in
-    let s = j in
-    reached s.args.q s.args.w (subst T (sym s.well_formed.0.1) tt) (subst T (sym s.well_formed.1.0.1) tt) j.if-q.true e
+    reached c.args.q c.args.w (subst T (sym c.well_formed.0.1) tt) (subst T (sym c.well_formed.1.0.1) tt) c.if-q.true e
 
 pub returns-else-w : goal.returns-else-w
 returns-else-w c e = never e

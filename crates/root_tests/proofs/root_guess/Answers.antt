@@ -29,18 +29,15 @@ fit n h = record { fits = omega arith }
 
 pub float_to_bits-s : goal.float_to_bits-s
 float_to_bits-s c =
-    let s = c in
-    plain_no_nan s.args.x
-    (usual_one s.args.x (subst T (sym s.well_formed.0.1) tt) _ c.usual.ensures c.if-usual.true)
+    plain_no_nan c.args.x
+    (usual_one c.args.x (subst T (sym c.well_formed.0.1) tt) _ c.usual.ensures c.if-usual.true)
 
 pub overflow_add-s : goal.overflow_add-s
 overflow_add-s c =
-    let s = c in
-    fit (to_bits binary32 s.args.x / 8192 * 4096 % 4294967296 + 532484096) (small s.args.x
-    (usual_one s.args.x (subst T (sym s.well_formed.0.1) tt) _ c.usual.ensures c.if-usual.true))
+    fit (to_bits binary32 c.args.x / 8192 * 4096 % 4294967296 + 532484096) (small c.args.x
+    (usual_one c.args.x (subst T (sym c.well_formed.0.1) tt) _ c.usual.ensures c.if-usual.true))
 
 pub float_from_bits-s : goal.float_from_bits-s
 float_from_bits-s c =
-    let s = c in
-    no_nan_bits (to_bits binary32 s.args.x / 8192 * 4096 % 4294967296 + 532484096) (small s.args.x
-    (usual_one s.args.x (subst T (sym s.well_formed.0.1) tt) _ c.usual.ensures c.if-usual.true))
+    no_nan_bits (to_bits binary32 c.args.x / 8192 * 4096 % 4294967296 + 532484096) (small c.args.x
+    (usual_one c.args.x (subst T (sym c.well_formed.0.1) tt) _ c.usual.ensures c.if-usual.true))

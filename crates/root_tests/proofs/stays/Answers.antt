@@ -10,32 +10,22 @@ never : {A : Type 0} → false ≡ true → A
 never e = absurd (false≢true e)
 
 pub float_to_float-result : goal.float_to_float-result
-float_to_float-result c = let i = c in
-    let j = i in
-    let s = j in
-    cast_ok s.args.q (subst T (sym s.well_formed.0.1) tt)
-    (plain_no_nan s.args.q (usual_plain s.args.q (subst T (sym s.well_formed.0.1) tt) (sym j.usual.ensures ∙ j.if-usual.true)))
+float_to_float-result c = cast_ok c.args.q (subst T (sym c.well_formed.0.1) tt)
+    (plain_no_nan c.args.q (usual_plain c.args.q (subst T (sym c.well_formed.0.1) tt) (sym c.usual.ensures ∙ c.if-usual.true)))
 
 pub float_to_float-result-then-usual-2 : goal.float_to_float-result-then-usual-2
-float_to_float-result-then-usual-2 c = let i = c in
-    let s = i in
-    cast_ok s.args.w (subst T (sym s.well_formed.1.0.1) tt)
-    (plain_no_nan s.args.w (usual_plain s.args.w (subst T (sym s.well_formed.1.0.1) tt) (sym i.usual-then-usual.ensures ∙ i.if-usual-2.true)))
+float_to_float-result-then-usual-2 c = cast_ok c.args.w (subst T (sym c.well_formed.1.0.1) tt)
+    (plain_no_nan c.args.w (usual_plain c.args.w (subst T (sym c.well_formed.1.0.1) tt) (sym c.usual-then-usual.ensures ∙ c.if-usual-2.true)))
 
 pub float_to_float-result-then-usual-2-2 : goal.float_to_float-result-then-usual-2-2
-float_to_float-result-then-usual-2-2 c = let i = c in
-    let s = i in
-    cast_ok s.args.w (subst T (sym s.well_formed.1.0.1) tt)
-    (plain_no_nan s.args.w (usual_plain s.args.w (subst T (sym s.well_formed.1.0.1) tt) (sym i.usual-then-usual.ensures ∙ i.if-usual-2.true)))
+float_to_float-result-then-usual-2-2 c = cast_ok c.args.w (subst T (sym c.well_formed.1.0.1) tt)
+    (plain_no_nan c.args.w (usual_plain c.args.w (subst T (sym c.well_formed.1.0.1) tt) (sym c.usual-then-usual.ensures ∙ c.if-usual-2.true)))
 
 pub returns-then-usual-2 : goal.returns-then-usual-2
 returns-then-usual-2 c = λ e.
-    let i = c in
-    let j = i in
-    let s = j in
-    let a = s.args in
-    stayed a.q a.w (usual_plain a.q (subst T (sym s.well_formed.0.1) tt) (sym j.usual.ensures ∙ j.if-usual.true))
-    (usual_plain a.w (subst T (sym s.well_formed.1.0.1) tt) (sym i.usual-then-usual.ensures ∙ i.if-usual-2.true)) e
+    let a = c.args in
+    stayed a.q a.w (usual_plain a.q (subst T (sym c.well_formed.0.1) tt) (sym c.usual.ensures ∙ c.if-usual.true))
+    (usual_plain a.w (subst T (sym c.well_formed.1.0.1) tt) (sym c.usual-then-usual.ensures ∙ c.if-usual-2.true)) e
 
 pub returns-else-usual-2 : goal.returns-else-usual-2
 returns-else-usual-2 c = λ e. never e

@@ -5,7 +5,5 @@ use Rattle.sdf.proofs.capsule.Goals as goal
 pub returns : goal.returns
 unfolding capsule
 returns c =
-    let b1 = c in let b2 = b1 in let b3 = b2 in let b4 = b3 in
-    let b5 = b4 in let b6 = b5 in let b7 = b6 in
-    rw (c.length.ensures, b1.sub.ensures, b2.scale.ensures, b3.clamp-h.ensures, b4.dot-2.ensures)
-    (rw (b5.dot.ensures, b6.sub-ba.ensures, b7.sub-pa.ensures))
+    rw (c.length.ensures, c.sub.ensures, c.scale.ensures, c.clamp-h.ensures, c.dot-2.ensures)
+    (rw (c.dot.ensures, c.sub-ba.ensures, c.sub-pa.ensures))

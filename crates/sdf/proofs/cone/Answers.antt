@@ -6,15 +6,13 @@ use Rattle.sdf.proofs.cone.Goals as goal
 pub returns-then-baba : goal.returns-then-baba
 unfolding cone
 returns-then-baba c =
-    let b1 = c in
     rw (sym c.sub-ba.ensures)
     (rw (sym c.dot-baba.ensures, c.if-baba.true, c.sphere.ensures)
-    (rw b1.max.ensures))
+    (rw c.max.ensures))
 
 pub returns : goal.returns
 unfolding cone
 returns c =
-    let b1 = c in
     rw (sym c.sub-ba.ensures)
     (rw (sym c.dot-baba.ensures, c.if-baba.false, c.cone_body.ensures)
-    (rw b1.sub.ensures))
+    (rw c.sub.ensures))

@@ -12,7 +12,6 @@ returns-then-baba c =
 pub returns : goal.returns
 unfolding cylinder
 returns c =
-    let b1 = c in
     rw (sym c.sub-ba.ensures)
     (rw (sym c.dot-baba.ensures, c.if-baba.false)
-    (rw (c.cylinder_body.ensures, b1.sub.ensures)))
+    (rw (c.cylinder_body.ensures, c.sub.ensures)))

@@ -10,6 +10,5 @@ returns-then-max c = rw (sym c.max.ensures, c.if-max.true, c.min.ensures)
 pub returns : goal.returns
 unfolding cylinder_square
 returns c =
-    let b1 = c in
     rw (sym c.max.ensures, c.if-max.false, c.beyond-2.ensures)
-    (rw b1.beyond.ensures)
+    (rw c.beyond.ensures)

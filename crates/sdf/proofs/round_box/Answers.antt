@@ -5,9 +5,6 @@ use Rattle.sdf.proofs.round_box.Goals as goal
 pub returns : goal.returns
 unfolding round_box
 returns c =
-    let b1 = c in let b2 = b1 in let b3 = b2 in let b4 = b3 in
-    let b5 = b4 in let b6 = b5 in let b7 = b6 in let b8 = b7 in
-    let b9 = b8 in let b10 = b9 in
-    rw (c.min.ensures, b1.max-3.ensures, b2.max-2.ensures, b3.length-outside.ensures, b4.max.ensures)
-    (rw (b5.splat-2.ensures, b6.sub-q.ensures, b7.sub-2.ensures, b8.splat.ensures, b9.abs.ensures)
-    (rw b10.sub.ensures))
+    rw (c.min.ensures, c.max-3.ensures, c.max-2.ensures, c.length-outside.ensures, c.max.ensures)
+    (rw (c.splat-2.ensures, c.sub-q.ensures, c.sub-2.ensures, c.splat.ensures, c.abs.ensures)
+    (rw c.sub.ensures))

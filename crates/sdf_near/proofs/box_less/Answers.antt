@@ -8,14 +8,11 @@ use Rattle.sdf_near.proofs.box_less.Goals as goal
 
 pub returns-then-t-w : goal.returns-then-t-w
 returns-then-t-w c =
-    let b = c in
-    let m = b in
-    let s = m in
-    let a = s.args in
+    let a = c.args in
     inr (
       refl,
-      box_far a.q _ a.n _ a.r a.t (subst T (sym s.well_formed.0.1) tt) m.min-m.ensures
-          (b.reaches.ensures c.if-reaches.true) c.if-t-w.true,
+      box_far a.q _ a.n _ a.r a.t (subst T (sym c.well_formed.0.1) tt) c.min-m.ensures
+          (c.reaches.ensures c.if-reaches.true) c.if-t-w.true,
     )
 
 pub returns : goal.returns

@@ -6,9 +6,8 @@ use Rattle.sdf_near.proofs.less.Goals as goal
 
 pub returns-then-t-w : goal.returns-then-t-w
 returns-then-t-w c =
-    let b = c in
-    let a = b.args in
-    inr (refl, root_far a.q _ a.r a.t (b.reaches.ensures c.if-reaches.true) c.if-t-w.true)
+    let a = c.args in
+    inr (refl, root_far a.q _ a.r a.t (c.reaches.ensures c.if-reaches.true) c.if-t-w.true)
 
 pub returns : goal.returns
 returns c = inl (rw c.quick_root.ensures)

@@ -7,14 +7,11 @@ use Rattle.sdf_near.proofs.torus_at.Goals as goal
 
 pub returns-then-minor : goal.returns-then-minor
 returns-then-minor c =
-    let i = c in
-    let r = i in
-    let o = r in
-    let a = o.args in
+    let a = c.args in
     inr (
       refl,
-      torus_far a.g a.y _ a.major a.minor _ a.t o.off_ring-s.ensures
-          (r.reaches.ensures i.if-reaches.true) c.if-t-w.true c.if-minor.true,
+      torus_far a.g a.y _ a.major a.minor _ a.t c.off_ring-s.ensures
+          (c.reaches.ensures c.if-reaches.true) c.if-t-w.true c.if-minor.true,
     )
 
 pub returns : goal.returns
