@@ -9,14 +9,14 @@ use lib.ListN.{length}
 use lib.Ieee.{neg, le, of_bits}
 use lib.Ieee.Fits.{and_l, and_r, and_i}
 use Rattle.scalar.specs.Ranges.{between, magnitude}
-use Rattle.vectors.specs.Vec.{vsplat, vmin, vmax}
+use Rattle.vectors.specs.Vec.{vsplat}
 use Rattle.sdf.specs.declared.Aabb.{Aabb}
 use Rattle.refusals.specs.Ranges.{greatest, within}
 use Rattle.bvh_boxes.specs.Boxes.{finite_box, all_at_most, inside, nowhere, merge, box_at}
 use Rattle.bvh_boxes.specs.Inside.Hulls.{hull_from}
 use Rattle.bvh_boxes.proofs.Vectors.{Below, Finite, below_of, of_below, finite_of, of_finite, at_least}
 use Rattle.bvh_boxes.proofs.Vectors.{at_most}
-use Rattle.bvh_boxes.proofs.Vectors.{finite_numbers, fmin_top, fmax_bottom, below_refl, below_trans, vmin_left}
+use Rattle.bvh_boxes.proofs.Vectors.{finite_numbers, below_refl, below_trans, vmin_left}
 use Rattle.bvh_boxes.proofs.Vectors.{vmin_right, vmin_greatest, vmax_left, vmax_right, vmax_least, vmin_finite}
 use Rattle.bvh_boxes.proofs.Vectors.{vmax_finite}
 
