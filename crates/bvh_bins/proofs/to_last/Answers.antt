@@ -1,0 +1,8 @@
+-- `bvh_bins::to_last` meets its contract. Assumes nothing.
+use Rattle.bvh_bins.proofs.to_last.Goals as goal
+
+pub returns-then-x : goal.returns-then-x
+returns-then-x c = simp c.if-x.true
+
+pub returns-else-x : goal.returns-else-x
+returns-else-x c = simp c.if-x.false
