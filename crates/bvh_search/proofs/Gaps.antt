@@ -6,7 +6,7 @@ use Rattle.scalar.specs.F32.{f0}
 use Rattle.scalar.specs.Extremes.{fmax}
 use Rattle.float_order.specs.Inside.Order.{number}
 use Rattle.float_order.proofs.Order.{yes_of, is_yes, is_not, not_of, number_eq, lt_right, lt_trans}
-use Rattle.float_order.proofs.Order.{lt_irrefl, lt_le_trans, le_of_not_lt}
+use Rattle.float_order.proofs.Order.{lt_le_trans, le_of_not_lt}
 use Rattle.float_order.proofs.Extremes.{fmax_either}
 
 self : eq f0 f0 ≡ true

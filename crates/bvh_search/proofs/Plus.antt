@@ -7,7 +7,7 @@ use Rattle.root.proofs.Whole.{cast_ok}
 use Rattle.scalar.specs.F32.{f0}
 use Rattle.scalar.specs.Extremes.{fmax}
 use Rattle.vectors.specs.declared.Vec3.{Vec3}
-use Rattle.vectors.specs.Vec.{vsplat, vsub, vmax, vdot}
+use Rattle.vectors.specs.Vec.{vsplat, vmax, vdot}
 use Rattle.float_order.specs.Inside.Order.{zero_f}
 use Rattle.float_order.proofs.Order.{le_right, number_is}
 use Rattle.float_order.proofs.Extremes.{fmax_right}
