@@ -1,0 +1,14 @@
+-- `shade::direct_step` meets its contract: a return for each case. Assumes nothing.
+use mathlib.Core.Path.{sym}
+use Rattle.shade.specs.Direct.{direct_step}
+use Rattle.shade.proofs.direct_step.Goals as goal
+
+pub returns-in-Shut : goal.returns-in-Shut
+unfolding direct_step
+returns-in-Shut c =
+    rw (sym c.panel_of-a.ensures, sym c.reach_of.ensures, c.in-Shut.is)
+
+pub returns-in-Open : goal.returns-in-Open
+unfolding direct_step
+returns-in-Open c =
+    rw (sym c.panel_of-a.ensures, sym c.reach_of.ensures, c.in-Open.is, c.shone.ensures)
