@@ -1,5 +1,5 @@
 -- "Every answer is 16 words: those named, the rest 0. A refusal makes all 16 words 0."
-use Rattle.std.specs.Prelude.{ℕ, cond, List, [], ◌∷◌, replicate, eqb, Float}
+use Rattle.std.specs.Prelude.{ℕ, cond, [], ◌∷◌, replicate, eqb, Float}
 use Rattle.std.specs.Float.{binary32}
 use Rattle.std.specs.Float.Ieee.{to_bits}
 use Rattle.reply.specs.declared.Reply.{Reply}
