@@ -1,4 +1,5 @@
 -- `Vec3::axis` meets its contract. Assumes nothing.
+use native.Mathlib.Omega.{arith}
 use borrow.Author.Tests.{ne_eqb}
 use Rattle.vectors.specs.Vec.{vaxis}
 use Rattle.vectors.proofs.Vec3.axis.Goals as goal
@@ -13,4 +14,4 @@ returns-in-1 c = rw c.in-1.is
 
 pub returns-in_default : goal.returns-in_default
 unfolding vaxis
-returns-in_default c = simp (ne_eqb _ 0 c.in_default.in_default-own.rest.0.1, ne_eqb _ 1 c.in_default.in_default-own.rest.1)
+returns-in_default c = simp (ne_eqb c.args.k 0 (λ e. omega arith), ne_eqb c.args.k 1 (λ e. omega arith))
