@@ -242,15 +242,25 @@ fn plain(kind: u32, a: Vec3, b: Vec3, u: f32, v: f32) -> bool
 }
 
 // The number of a kind and its eight floats, by the kind, so that no shape is made and passed on.
-fn prim_in(kind: u32, a: Vec3, b: Vec3, u: f32, v: f32) -> u32
-    ensures { result ≡ prim_in kind a b u v }
+fn prim_in(kind: u32, ax: f32, ay: f32, az: f32, bx: f32, by: f32, bz: f32, u: f32, v: f32) -> u32
+    ensures { result ≡ prim_in kind (record { x = ax; y = ay; z = az }) (record { x = bx; y = by; z = bz }) u v }
 {
+    let a = Vec3 {
+        x: ax,
+        y: ay,
+        z: az,
+    };
+    let b = Vec3 {
+        x: bx,
+        y: by,
+        z: bz,
+    };
     match kind {
-        0 => bad_unless(refusals::both(refusals::coordinates(a), refusals::radius(b.x))),
+        0 => bad_unless(refusals::both(refusals::coordinates(a), refusals::radius(bx))),
         1 => bad_unless(block_ok(a, b, u)),
-        2 => bad_unless(plane_ok(a, b.x)),
+        2 => bad_unless(plane_ok(a, bx)),
         3 => capsule_number(a, b, u),
-        4 => bad_unless(torus_ok(a, b.x, b.y)),
+        4 => bad_unless(torus_ok(a, bx, by)),
         5 => bad_unless(ends_ok(a, b, u)),
         6 => bad_unless(cone_ok(a, b, u, v)),
         _ => refusals::BAD_NUMBER,
@@ -279,7 +289,7 @@ fn prim_at(kind: u32, fs: &Floats, i: usize) -> u32
     if plain(kind, a, b, u, v) {
         return 0;
     }
-    prim_in(kind, a, b, u, v)
+    prim_in(kind, a.x, a.y, a.z, b.x, b.y, b.z, u, v)
 }
 
 // What the piece in row r gets by its own words.

@@ -1,4 +1,5 @@
 -- `record_test::least_of` meets its contract: each arm is a case. Assumes nothing.
+use native.Mathlib.Omega.{arith}
 use borrow.Author.Tests.{ne_eqb}
 use Rattle.record_test.specs.Inside.Prims.{least_of}
 use Rattle.record_test.proofs.least_of.Goals as goal
@@ -18,5 +19,4 @@ returns-in-4 c = rw c.in-4.is
 pub returns-in_default : goal.returns-in_default
 unfolding least_of
 returns-in_default c =
-    let n = c.in_default.in_default-own.rest in
-    rw (ne_eqb _ 0 n.0.0.1, ne_eqb _ 1 n.0.1, ne_eqb _ 4 n.1)
+    rw (ne_eqb c.args.kind 0 (λ e. omega arith), ne_eqb c.args.kind 1 (λ e. omega arith), ne_eqb c.args.kind 4 (λ e. omega arith))

@@ -1,7 +1,8 @@
 -- `record_test::prim_in` meets its contract: each arm is a kind. Assumes nothing.
 use mathlib.Core.Path.{sym}
+use native.Mathlib.Omega.{arith}
 use Rattle.record_test.proofs.Prims.{sphere_number, block_number, plane_number, capsule_number, torus_number}
-use Rattle.record_test.proofs.Prims.{cylinder_number, cone_number, other_number, above_six}
+use Rattle.record_test.proofs.Prims.{cylinder_number, cone_number, other_number}
 use Rattle.record_test.proofs.prim_in.Goals as goal
 
 pub returns-in-0 : goal.returns-in-0
@@ -34,8 +35,5 @@ returns-in-6 c =
 
 pub returns-in_default : goal.returns-in_default
 returns-in_default c =
-    let n = c.in_default.in_default-own.rest in
     let a = c.args in
-    sym (other_number _ _ _ _ a.kind
-    (above_six a.kind n.0.0.0.0.0.0.1 n.0.0.0.0.0.1 n.0.0.0.0.1 n.0.0.0.1 n.0.0.1
-    n.0.1 n.1))
+    sym (other_number _ _ _ _ a.kind (omega arith))
