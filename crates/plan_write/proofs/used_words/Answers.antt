@@ -1,5 +1,6 @@
 -- `plan_write::used_words` meets its contract: kind by kind. Assumes nothing.
-use mathlib.Core.Logic.{⊎_elim, inl, inr}
+use native.Mathlib.Omega.{arith}
+use mathlib.Core.Logic.{⊎_elim}
 use borrow.Author.Tests.{ne_eqb}
 use Rattle.plan_write.specs.Written.{used_words}
 use Rattle.plan_write.proofs.used_words.Goals as goal
@@ -19,6 +20,4 @@ returns-in-6 c = rw c.in-6.is
 pub returns-in_default : goal.returns-in_default
 unfolding used_words
 returns-in_default c =
-    let r = c.in_default.in_default-own.rest in
-    let small = r.0.0.1 in
-    simp (ne_eqb _ 0 (λ e. small (inl e)), ne_eqb _ 2 (λ e. small (inr e)), ne_eqb _ 4 r.0.1, ne_eqb _ 6 r.1)
+    simp (ne_eqb c.args.kind 0 (λ e. grind arith), ne_eqb c.args.kind 2 (λ e. grind arith), ne_eqb c.args.kind 4 (λ e. omega arith), ne_eqb c.args.kind 6 (λ e. omega arith))
