@@ -1,4 +1,5 @@
 -- `bvh_rows::box_in` meets its contract: each arm is a kind. Assumes nothing.
+use native.Mathlib.Omega.{arith}
 use borrow.Author.Tests.{ne_eqb}
 use Rattle.sdf.specs.Boxes.{bounds_of, box_of}
 use Rattle.refusals.specs.Prims.{shape_of}
@@ -31,13 +32,12 @@ returns-in-5 c = rw (c.in-5.is, c.around-in-5.ensures)
 pub returns-in_default : goal.returns-in_default
 unfolding shape_of box_of bounds_of
 returns-in_default c =
-    let n = c.in_default.in_default-own.rest in
     rw (c.around-in_default.ensures, c.max.ensures)
     (simp (
-      ne_eqb _ 0 n.0.0.0.0.0.1,
-      ne_eqb _ 1 n.0.0.0.0.1,
-      ne_eqb _ 2 n.0.0.0.1,
-      ne_eqb _ 3 n.0.0.1,
-      ne_eqb _ 4 n.0.1,
-      ne_eqb _ 5 n.1,
+      ne_eqb c.args.kind 0 (λ e. omega arith),
+      ne_eqb c.args.kind 1 (λ e. omega arith),
+      ne_eqb c.args.kind 2 (λ e. omega arith),
+      ne_eqb c.args.kind 3 (λ e. omega arith),
+      ne_eqb c.args.kind 4 (λ e. omega arith),
+      ne_eqb c.args.kind 5 (λ e. omega arith),
     ))
