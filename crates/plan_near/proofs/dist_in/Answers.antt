@@ -36,6 +36,5 @@ returns-in-5 c = λ _. rw c.in-5.is c.cylinder.ensures
 pub returns-in_default : goal.returns-in_default
 unfolding dist_of
 returns-in_default c = λ _.
-    let n = c.in_default.in_default-own.rest in
-    rw (cone_kind _ _ _ _ _ n.0.0.0.0.0.1 n.0.0.0.0.1 n.0.0.0.1 n.0.0.1 n.0.1 n.1)
+    rw (cone_kind c.args.kind _ _ _ _ (λ e. omega arith) (λ e. omega arith) (λ e. omega arith) (λ e. omega arith) (λ e. omega arith) (λ e. omega arith))
     c.cone.ensures
