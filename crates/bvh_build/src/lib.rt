@@ -17,10 +17,12 @@ ghost use Rattle.bvh_build.specs.Inside.Lays.{Lays, Room, Builds, BuildsFew, zer
 use plan::{Floats, Nodes, Order, Words};
 use sdf::Aabb;
 
-// The numbers that a word can be, and the floats of the boxes of all objects.
+// The numbers that a word can be, and the floats of the boxes of all objects and of a span.
 const WORDS: usize = 4294967296;
 
 const BOXES_FLOATS: usize = 2048;
+
+const SPAN_FLOATS: usize = 16;
 
 // The next free place, and whether no node is too deep.
 #[derive(Clone, Copy)]
@@ -73,6 +75,7 @@ fn build_recursive(
     nw: &mut Nodes,
     os: &mut [u32],
     t: &[f32],
+    kept: &mut [f32; 16],
     at: usize,
     start: usize,
     levels: usize,
@@ -88,7 +91,7 @@ fn build_recursive(
             low: false,
         };
     }
-    let s = bvh_range::span_of(os, t);
+    let s = bvh_range::span_of(os, t, kept);
     let hull = s.hull;
     let centres = s.centres;
     if bvh_range::stops(n, bvh_range::extent(centres)) {
@@ -100,10 +103,10 @@ fn build_recursive(
     }
     let mid = bvh_split::cut(os, t, centres);
     let below = less(levels);
-    let left = build_recursive(nw, &mut os[..mid], t, at + 1, start, below);
+    let left = build_recursive(nw, &mut os[..mid], t, kept, at + 1, start, below);
     put_node(nw, at, hull, 0, 0, narrow(left.next));
     let second = std::num::wrapping_add_usize(start, mid);
-    let right = build_recursive(nw, &mut os[mid..], t, left.next, second, below);
+    let right = build_recursive(nw, &mut os[mid..], t, kept, left.next, second, below);
     Built {
         next: right.next,
         low: refusals::both(left.low, right.low),
@@ -118,7 +121,7 @@ fn load_boxes(ws: &Words, fs: &Floats, t: &mut [f32])
     let n = bvh_rules::object_count(ws);
     let mut o: u32 = 0;
     while o < n {
-        bvh_range::put_box(t, o as usize, bvh_rows::object_box(ws, fs, o));
+        bvh_range::put_box(t, o as usize, bvh_boxes::object_box(ws, fs, o));
         o += 1;
     }
 }
@@ -144,7 +147,8 @@ fn build_with(ws: &Words, fs: &Floats, nw: &mut Nodes, os: &mut [u32], t: &mut [
 {
     load_boxes(ws, fs, t);
     number(os);
-    build_recursive(nw, os, t, 0, 0, bvh_rules::LEVELS)
+    let mut kept = [0.0f32; SPAN_FLOATS];
+    build_recursive(nw, os, t, &mut kept, 0, 0, bvh_rules::LEVELS)
 }
 
 // The tree of n objects, the first n places of the order being theirs.

@@ -3,8 +3,8 @@
 #![tactic(auto)]
 
 ghost use Rattle.std.specs.Prelude.{◌≡◌, get_or};
-ghost use Rattle.scalar.specs.F32.{f0};
-ghost use Rattle.vectors.specs.Vec.{vmin, vmax};
+ghost use Rattle.scalar.specs.F32.{f0, fhalf};
+ghost use Rattle.vectors.specs.Vec.{vadd, vscale, vmin, vmax};
 ghost use Rattle.bvh_boxes.specs.Boxes.{nowhere, merge, box_at};
 ghost use Rattle.bvh_range.specs.Range.{point, span_of, extent_of, axis_of, stops};
 ghost use Rattle.bvh_range.specs.Inside.Table.{table_boxes, corner, box_of_row, with_row, put_box};
@@ -90,6 +90,17 @@ fn upper(a: Four, b: Four) -> Four
     }
 }
 
+fn halfway(a: Four, b: Four) -> Four
+    ensures { corner result ≡ vscale (vadd (corner a) (corner b)) fhalf }
+{
+    Four {
+        x: (a.x + b.x) * 0.5,
+        y: (a.y + b.y) * 0.5,
+        z: (a.z + b.z) * 0.5,
+        w: (a.w + b.w) * 0.5,
+    }
+}
+
 // The least box around both, for an a whose corners are numbers.
 pub fn join(a: Row, b: Row) -> Row
     ensures { Numbers (box_of_row a) → box_of_row result ≡ merge (box_of_row a) (box_of_row b) }
@@ -116,6 +127,13 @@ pub fn wider(a: Aabb, b: Aabb) -> Aabb
             z: greater(a.hi.z, b.hi.z),
         },
     }
+}
+
+fn middle(b: Row) -> Row
+    ensures { box_of_row result ≡ point (box_of_row b) }
+{
+    let c = halfway(b.lo, b.hi);
+    Row { lo: c, hi: c }
 }
 
 pub fn no_row() -> Row
@@ -231,26 +249,25 @@ pub fn member(os: &[u32], t: &[f32], i: usize) -> Row
     row_at(t, object_at(os, i) as usize)
 }
 
-fn point_of(b: Aabb) -> Aabb
-    ensures { result ≡ point b }
-{
-    let c = b.centre();
-    Aabb { lo: c, hi: c }
-}
-
-pub fn span_of(os: &[u32], t: &[f32]) -> Span
+// What is kept in `kept` is never read: it makes the compiler hold all four floats of each row side by side.
+pub fn span_of(os: &[u32], t: &[f32], kept: &mut [f32; 16]) -> Span
     ensures { result ≡ span_of (table_boxes t.now) os.now }
 {
-    let mut hull = bvh_boxes::nowhere();
-    let mut centres = bvh_boxes::nowhere();
+    let mut hull = no_row();
+    let mut centres = no_row();
     let mut i: usize = 0;
     while i < os.len() {
-        let m = box_in(member(os, t, i));
-        hull = wider(hull, m);
-        centres = wider(centres, point_of(m));
+        let m = member(os, t, i);
+        hull = join(hull, m);
+        centres = join(centres, middle(m));
         i += 1;
     }
-    Span { hull, centres }
+    put_row(kept, 0, hull);
+    put_row(kept, 1, centres);
+    Span {
+        hull: box_in(hull),
+        centres: box_in(centres),
+    }
 }
 
 pub fn extent(c: Aabb) -> Vec3

@@ -1,6 +1,6 @@
--- How many levels a tree has for its places, that it ends within the table, and that at most one tree stands at a
--- place. By induction on the tree: a leaf is not empty. Assumes nothing.
-use Prim.Native.Nat.{ℕ, ◌+◌, ◌≤◌, ◌<◌}
+-- How many nodes and levels a tree has for its places, that it ends within the table, and that at most one tree stands
+-- at a place. By induction on the tree: a leaf is not empty. Assumes nothing.
+use Prim.Native.Nat.{ℕ, ◌+◌, ◌*◌, ◌≤◌, ◌<◌}
 use mathlib.Core.Path.{◌≡◌, sym, ◌∙◌, ap, ap₂, subst}
 use mathlib.Core.List.{List}
 use native.Mathlib.Omega.{arith}
@@ -17,6 +17,11 @@ module _ (w : List ℕ) (f : List Float) where
   pub weight_above : (at s : ℕ) (t : Tree) → Stands w f at s t → 0 < weight t
   weight_above at s (leaf b c) h = h.1
   weight_above at s (node b l r) h = omega (arith, weight_above (at + 1) s l h.1)
+
+  pub size_weight : (at s : ℕ) (t : Tree) → Stands w f at s t → size t + 1 ≤ 2 * weight t
+  size_weight at s (leaf b c) h = omega (arith, h.1)
+  size_weight at s (node b l r) h =
+      omega (arith, size_weight (at + 1) s l h.1, size_weight (at + 1 + size l) (s + weight l) r h.2)
 
   pub depth_weight : (at s : ℕ) (t : Tree) → Stands w f at s t → depth t < weight t
   depth_weight at s (leaf b c) h = h.1

@@ -1,7 +1,7 @@
 -- Two tables in which a search reads the same give the same hits and the same field: what else they hold is not looked
--- at. Pop by pop where all nodes are alike; where only so many are as any tree has that stands, both searches are the
--- walk of one tree. Assumes nothing.
-use Rattle.std.proofs.Common.{◌≡◌, ℕ, zero, suc, ◌+◌, ◌<◌, ◌≤◌, Bool, true, false, cond, eqb, ◌⊎◌, List, [], ◌∷◌, length, sym, refl, ap, ◌∙◌, inl, inr, arith, eqb-true}
+-- at. Pop by pop where all nodes are alike; where only those that a tree of the objects may have are, both searches are
+-- the walk of one tree, since a tree has fewer than two nodes for each object. Assumes nothing.
+use Rattle.std.proofs.Common.{◌≡◌, ℕ, zero, suc, ◌+◌, ◌*◌, ◌<◌, ◌≤◌, Bool, true, false, cond, eqb, ◌⊎◌, List, [], ◌∷◌, length, sym, refl, ap, ◌∙◌, inl, inr, arith, eqb-true}
 use lib.Ieee.{Float}
 use Rattle.vectors.specs.declared.Vec3.{Vec3}
 use Rattle.sdf.specs.declared.Aabb.{Aabb}
@@ -16,6 +16,7 @@ use Rattle.bvh_boxes.proofs.Lists.{box_count}
 use Rattle.bvh_rules.specs.Nodes.{nodes_of, order_of, node_at}
 use Rattle.bvh_rules.specs.Rules.{Tree, leaf, node, size, weight, Stands, Accepted, MeetsRules}
 use Rattle.bvh_rules.specs.Check.{judge_of, is_good, standing_number}
+use Rattle.bvh_rules.proofs.Trees.{size_weight}
 use Rattle.bvh_rules.proofs.Exact.{standing_exact}
 use Rattle.bvh_search.specs.declared.Searched.{Searched}
 use Rattle.bvh_search.specs.Search.{Turn, on, full, piece_in, leaf_hit, node_dist, pushed, searched}
@@ -25,18 +26,12 @@ use Rattle.bvh_search.specs.Field.{hit_by, field_by}
 use Rattle.bvh_search.proofs.Visit.{answer, search_walks}
 use Rattle.bvh_search.proofs.Demand.{search_empty}
 
-abbrev pub AtMost : List ℕ → List Float → ℕ → Type 0  -- whatever tree stands has no more than so many nodes
-AtMost w f e = (t : Tree) → Stands w f 0 0 t → size t ≤ e
-
--- so many nodes are alike, and no tree has more
+-- the nodes that a tree of the plan's objects may have are alike
 pub record Trimmed (v w : List ℕ) (f g : List Float) : Type 0 where
   pub few : count_of objects w ≤ 256
   pub long_v : length (nodes_of v) ≡ nodes_words
   pub long_w : length (nodes_of w) ≡ nodes_words
-  pub e : ℕ
-  pub most_v : AtMost (nodes_of v) (nodes_of f) e
-  pub most_w : AtMost (nodes_of w) (nodes_of g) e
-  pub node : (a : ℕ) → a < e → node_at (nodes_of v) (nodes_of f) a ≡ node_at (nodes_of w) (nodes_of g) a
+  pub node : (a : ℕ) → a < 2 * count_of objects w → node_at (nodes_of v) (nodes_of f) a ≡ node_at (nodes_of w) (nodes_of g) a
 
 -- what a search reads of a table, as words and as floats
 pub record Same (v w : List ℕ) (f g : List Float) : Type 0 where
@@ -102,15 +97,16 @@ stands_as v w f g at s (node b l r) same h = (
   stands_as v w f g (at + 1 + size l) (s + weight l) r (λ a x y. same a (omega arith) (omega arith)) h.2,
 )
 
-module _ (v w : List ℕ) (f g : List Float) (o : List ℕ) (bs : List Aabb) (e : ℕ) (most : AtMost v f e)
-    (same : (a : ℕ) → a < e → node_at v f a ≡ node_at w g a) where
+module _ (v w : List ℕ) (f g : List Float) (o : List ℕ) (bs : List Aabb)
+    (same : (a : ℕ) → a < 2 * length bs → node_at v f a ≡ node_at w g a) where
   accept_as : (t : Tree) → Accepted v f o bs t → Accepted w g o bs t
   accept_as t h =
-      let few = most t h.holds.stands in
+      let few = size_weight v f 0 0 t h.holds.stands in
+      let all = h.holds.all in
       record {
         holds = record {
-          stands = stands_as v w f g 0 0 t (λ a x y. same a (omega (arith, few, y))) h.holds.stands;
-          all = h.holds.all;
+          stands = stands_as v w f g 0 0 t (λ a x y. same a (omega arith)) h.holds.stands;
+          all = all;
           once = h.holds.once;
           boxed = h.holds.boxed;
         };
@@ -132,20 +128,18 @@ zero_same false true n to from = from refl
 zero_same false false n to from = refl
 
 module _ (v w : List ℕ) (f g : List Float) (o : List ℕ) (bs : List Aabb) (long_v : length v ≡ 4599)
-    (long_w : length w ≡ 4599) (few : length bs ≤ 256) (e : ℕ) (most_v : AtMost v f e) (most_w : AtMost w g e)
-    (same : (a : ℕ) → a < e → node_at v f a ≡ node_at w g a) where
-  abbrev back : (a : ℕ) → a < e → node_at w g a ≡ node_at v f a
+    (long_w : length w ≡ 4599) (few : length bs ≤ 256)
+    (same : (a : ℕ) → a < 2 * length bs → node_at v f a ≡ node_at w g a) where
+  abbrev back : (a : ℕ) → a < 2 * length bs → node_at w g a ≡ node_at v f a
   back a h = sym (same a h)
 
   stands_to : standing_number v f o bs ≡ 0 → standing_number w g o bs ≡ 0
-  stands_to z =
-      (standing_exact w g o bs long_w few).1
-      (meets_as v w f g o bs e most_v same ((standing_exact v f o bs long_v few).0 z))
+  stands_to e =
+      (standing_exact w g o bs long_w few).1 (meets_as v w f g o bs same ((standing_exact v f o bs long_v few).0 e))
 
   stands_from : standing_number w g o bs ≡ 0 → standing_number v f o bs ≡ 0
-  stands_from z =
-      (standing_exact v f o bs long_v few).1
-      (meets_as w v g f o bs e most_w back ((standing_exact w g o bs long_w few).0 z))
+  stands_from e =
+      (standing_exact v f o bs long_v few).1 (meets_as w v g f o bs back ((standing_exact w g o bs long_w few).0 e))
 
   standing_as : standing_number v f o bs ≡ standing_number w g o bs
   unfolding standing_number
@@ -158,7 +152,7 @@ module _ (v w : List ℕ) (f g : List Float) (o : List ℕ) (bs : List Aabb) (lo
       (bound : DistHit) where
     search_one : (t : Tree) → Accepted w g o bs t → search_of v f o x q p bound ≡ search_of w g o y r p bound
     search_one t h =
-        search_walks v f o x q p long_v bs t (accept_as w v g f o bs e most_w back t h) few all-x bound
+        search_walks v f o x q p long_v bs t (accept_as w v g f o bs back t h) few all-x bound
         ∙ ap answer (visit_same o x y q r p piece t 0 (walk_from bound))
         ∙ sym (search_walks w g o y r p long_w bs t h few all-y bound)
 
@@ -169,7 +163,7 @@ module _ (v w : List ℕ) (f g : List Float) (o : List ℕ) (bs : List Aabb) (lo
     search_by (inr h) = search_one h.0 h.1
 
     search_as : standing_number w g o bs ≡ 0 → search_of v f o x q p bound ≡ search_of w g o y r p bound
-    search_as z = search_by ((standing_exact w g o bs long_w few).0 z)
+    search_as e = search_by ((standing_exact w g o bs long_w few).0 e)
 
 -- ---- the two tables of a call
 module _ (v w : List ℕ) (f g : List Float) (s : Same v w f g) where
@@ -182,13 +176,18 @@ module _ (v w : List ℕ) (f g : List Float) (s : Same v w f g) where
   few_boxes : Trimmed v w f g → length bs ≤ 256
   few_boxes t = omega (arith, t.few, box_count w g)
 
+  alike
+      : Trimmed v w f g → (a : ℕ) → a < 2 * length bs
+      → node_at (nodes_of v) (nodes_of f) a ≡ node_at (nodes_of w) (nodes_of g) a
+  alike t a h = t.node a (omega (arith, box_count w g))
+
   Standing-by
       : ((nodes_of v ≡ nodes_of w) × (nodes_of f ≡ nodes_of g)) ⊎ Trimmed v w f g
       → standing_number (nodes_of v) (nodes_of f) (order_of w) bs ≡ number
   Standing-by (inl e) = rw (e.0, e.1)
   Standing-by (inr t) =
       standing_as (nodes_of v) (nodes_of w) (nodes_of f) (nodes_of g) (order_of w) bs t.long_v t.long_w (few_boxes t)
-      t.e t.most_v t.most_w t.node
+      (alike t)
 
   pub standing_same
       : standing_number (nodes_of v) (nodes_of f) (order_of v) (boxes_of (plan_of v f))
@@ -203,7 +202,7 @@ module _ (v w : List ℕ) (f g : List Float) (s : Same v w f g) where
       rw (e.0, e.1, s.count, run_same (nodes_of w) (nodes_of g) (order_of w) v w f g p s.piece)
   search_same (inr t) z p b =
       search_as (nodes_of v) (nodes_of w) (nodes_of f) (nodes_of g) (order_of w) bs t.long_v t.long_w (few_boxes t)
-      t.e t.most_v t.most_w t.node v w f g p (box_count w g ∙ sym s.count) (box_count w g) s.piece b z
+      (alike t) v w f g p (box_count w g ∙ sym s.count) (box_count w g) s.piece b z
 
   pub hit_same
       : (tree : ℕ)

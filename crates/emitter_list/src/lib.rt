@@ -1,4 +1,4 @@
-// A ray against the caller's list of panels. Functions that take the slice are proved by a walk by hand.
+// A ray against the caller's list of panels.
 
 #![tactic(auto)]
 

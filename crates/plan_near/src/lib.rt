@@ -156,33 +156,22 @@ pub fn nearer(ws: &Words, fs: &Floats, r: usize, p: Vec3, best: DistHit) -> Dist
     nearer_of(ws, r, piece_in(ws, fs, r, p.x, p.y, p.z, best.d), best)
 }
 
-fn plane_nearer(ws: &Words, fs: &Floats, r: usize, x: f32, y: f32, z: f32, best: DistHit) -> DistHit
-    ensures { result ≡ closer best
-        (hit_of (piece_at ws.now fs.now r) (record { x = x; y = y; z = z })) }
+fn plane_nearer(ws: &Words, fs: &Floats, r: usize, p: Vec3, best: DistHit) -> DistHit
+    ensures { result ≡ closer best (hit_of (piece_at ws.now fs.now r) p) }
 {
     let _words: &[u32] = ws;
     let _floats: &[f32] = fs;
-    nearer_of(ws, r, plane_in(ws, fs, r, x, y, z, best.d), best)
+    nearer_of(ws, r, plane_in(ws, fs, r, p.x, p.y, p.z, best.d), best)
 }
 
-// The best of a hit and n pieces from row r on. It stands by itself, so the point goes by its three floats here too.
-fn nearest(
-    ws: &Words,
-    fs: &Floats,
-    r: u32,
-    n: u32,
-    x: f32,
-    y: f32,
-    z: f32,
-    best: DistHit,
-) -> DistHit
-    ensures { result ≡ nearest (pieces_from ws.now fs.now r n)
-        (record { x = x; y = y; z = z }) best }
+// The best of a hit and n pieces from row r on.
+fn nearest(ws: &Words, fs: &Floats, r: u32, n: u32, p: Vec3, best: DistHit) -> DistHit
+    ensures { result ≡ nearest (pieces_from ws.now fs.now r n) p best }
 {
     let mut hit = best;
     let mut j: u32 = 0;
     while j < n {
-        hit = plane_nearer(ws, fs, r as usize + j as usize, x, y, z, hit);
+        hit = plane_nearer(ws, fs, r as usize + j as usize, p, hit);
         j += 1;
     }
     hit
@@ -192,16 +181,7 @@ fn nearest(
 pub fn query_linear(ws: &Words, fs: &Floats, p: Vec3, best: DistHit) -> DistHit
     ensures { result ≡ list_hit (plan_of ws.now fs.now) p best }
 {
-    nearest(
-        ws,
-        fs,
-        plan::OBJECT_ROW,
-        ws[plan::COUNT_OBJECTS],
-        p.x,
-        p.y,
-        p.z,
-        best,
-    )
+    nearest(ws, fs, plan::OBJECT_ROW, ws[plan::COUNT_OBJECTS], p, best)
 }
 
 // The planes, from f32::MAX and material 0.
@@ -212,14 +192,5 @@ pub fn planes_hit(ws: &Words, fs: &Floats, p: Vec3) -> DistHit
         d: 3.4028235e38,
         mat: 0,
     };
-    nearest(
-        ws,
-        fs,
-        plan::PLANE_ROW,
-        ws[plan::COUNT_PLANES],
-        p.x,
-        p.y,
-        p.z,
-        none,
-    )
+    nearest(ws, fs, plan::PLANE_ROW, ws[plan::COUNT_PLANES], p, none)
 }

@@ -1,10 +1,15 @@
 -- A call on loaded tables is the call on what the lent bytes stand for. One law for every call of a kind. Assumes
 -- nothing.
-use Prim.Native.Nat.{ℕ}
+use Prim.Native.Nat.{ℕ, ◌<◌}
 use mathlib.Core.Path.{◌≡◌, ◌∙◌, ap}
+use mathlib.Core.Logic.{⊎_elim}
 use mathlib.Core.List.{List}
-use lib.ListN.{length}
-use lib.Ieee.{Float}
+use native.Mathlib.Omega.{arith}
+use lib.ListN.{length, replicate, length-replicate, get_or-replicate, get_or-eq_default}
+use lib.Ieee.{Float, nan}
+use Rattle.scalar.specs.F32.{f0}
+use Rattle.words.proofs.Laws.{less_or}
+use Rattle.plan.specs.Records.{word_of, float_of}
 use Rattle.plan.specs.Plan.{seen}
 use Rattle.plan.proofs.Rows.{Alike}
 use Rattle.bvh_search.proofs.Same.{Same}
@@ -16,6 +21,16 @@ use Rattle.wire.proofs.Replies.{sent_as}
 use Rattle.wire_used.specs.Inside.Used.{Spared}
 use Rattle.viewer.specs.Calls.{Ask, ask_reply}
 use Rattle.viewer.proofs.Spared.{spared_same, spared_args}
+
+-- ---- a new table
+pub zero_words : (n i : ℕ) → word_of (replicate n 0) i ≡ 0
+zero_words n i =
+    let l : length (replicate {A = ℕ} n 0) ≡ n = length-replicate {A = ℕ} n 0 in
+    ⊎_elim (λ h. get_or-replicate n i 0 0 h)
+    (λ h. get_or-eq_default (replicate n 0) 0 {n = i} (omega (arith, h, l))) (less_or i n)
+
+pub zero_floats : (n i : ℕ) → i < n → float_of (replicate n f0) i ≡ f0
+zero_floats n i h = get_or-replicate n i f0 nan h
 
 -- a call that replies alike where it reads the same
 abbrev pub Reads : Ask → Type 0

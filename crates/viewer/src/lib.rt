@@ -1,5 +1,5 @@
 // The calls that the Rust viewer makes, on bytes: what is lent is loaded, the call made, and its reply sent. Those that
-// write tables stand whole in wire_entry and wire_tree; the library exports only what stands here.
+// write tables stand whole in wire_entry and wire_tree; viewer_c exports to C what stands here.
 
 #![tactic(auto)]
 
@@ -17,8 +17,7 @@ ghost use Rattle.wire_tree.specs.Trees.{BuildSent, OfferSent};
 use plan::Material;
 use quad::Quad;
 
-#[unsafe(no_mangle)]
-pub extern "C" fn viewer_root(args: &[u8], out: &mut [u8]) -> u32
+pub fn viewer_root(args: &[u8], out: &mut [u8]) -> u32
     ensures { Sent (root_lent args.now (length out.old)) out.old result
         out.new }
 {
@@ -27,8 +26,7 @@ pub extern "C" fn viewer_root(args: &[u8], out: &mut [u8]) -> u32
     wire::send(bemitondry_values::root(n, wire::float_at(a, 0)), out)
 }
 
-#[unsafe(no_mangle)]
-pub extern "C" fn viewer_acos(args: &[u8], out: &mut [u8]) -> u32
+pub fn viewer_acos(args: &[u8], out: &mut [u8]) -> u32
     ensures { Sent (acos_lent args.now (length out.old)) out.old result
         out.new }
 {
@@ -37,8 +35,7 @@ pub extern "C" fn viewer_acos(args: &[u8], out: &mut [u8]) -> u32
     wire::send(bemitondry_values::acos(n, wire::float_at(a, 0)), out)
 }
 
-#[unsafe(no_mangle)]
-pub extern "C" fn viewer_prim_dist(args: &[u8], out: &mut [u8]) -> u32
+pub fn viewer_prim_dist(args: &[u8], out: &mut [u8]) -> u32
     ensures { Sent (prim_dist_lent args.now (length out.old)) out.old result out.new }
 {
     let n = wire_lengths::args_before(48, args.len(), out.len());
@@ -55,8 +52,7 @@ pub extern "C" fn viewer_prim_dist(args: &[u8], out: &mut [u8]) -> u32
     wire::send(r, out)
 }
 
-#[unsafe(no_mangle)]
-pub extern "C" fn viewer_prim_bounds(args: &[u8], out: &mut [u8]) -> u32
+pub fn viewer_prim_bounds(args: &[u8], out: &mut [u8]) -> u32
     ensures { Sent (prim_bounds_lent args.now (length out.old)) out.old result
         out.new }
 {
@@ -73,8 +69,7 @@ pub extern "C" fn viewer_prim_bounds(args: &[u8], out: &mut [u8]) -> u32
     wire::send(r, out)
 }
 
-#[unsafe(no_mangle)]
-pub extern "C" fn viewer_form_factor(args: &[u8], out: &mut [u8]) -> u32
+pub fn viewer_form_factor(args: &[u8], out: &mut [u8]) -> u32
     ensures { Sent (form_factor_lent args.now (length out.old)) out.old result
         out.new }
 {
@@ -89,8 +84,7 @@ pub extern "C" fn viewer_form_factor(args: &[u8], out: &mut [u8]) -> u32
     wire::send(bemitondry_values::form_factor(n, q), out)
 }
 
-#[unsafe(no_mangle)]
-pub extern "C" fn viewer_fresnel(args: &[u8], out: &mut [u8]) -> u32
+pub fn viewer_fresnel(args: &[u8], out: &mut [u8]) -> u32
     ensures { Sent (fresnel_lent args.now (length out.old)) out.old result out.new }
 {
     let n = wire_lengths::args_before(16, args.len(), out.len());
@@ -110,8 +104,7 @@ fn material_in(a: &[u8]) -> Material
     }
 }
 
-#[unsafe(no_mangle)]
-pub extern "C" fn viewer_f0(args: &[u8], out: &mut [u8]) -> u32
+pub fn viewer_f0(args: &[u8], out: &mut [u8]) -> u32
     ensures { Sent (f0_lent args.now (length out.old)) out.old result out.new }
 {
     let n = wire_lengths::args_before(20, args.len(), out.len());
@@ -119,8 +112,7 @@ pub extern "C" fn viewer_f0(args: &[u8], out: &mut [u8]) -> u32
     wire::send(bemitondry_values::f0(n, material_in(a)), out)
 }
 
-#[unsafe(no_mangle)]
-pub extern "C" fn viewer_diffuse_albedo(args: &[u8], out: &mut [u8]) -> u32
+pub fn viewer_diffuse_albedo(args: &[u8], out: &mut [u8]) -> u32
     ensures { Sent (diffuse_albedo_lent args.now (length out.old)) out.old result
         out.new }
 {
@@ -129,8 +121,7 @@ pub extern "C" fn viewer_diffuse_albedo(args: &[u8], out: &mut [u8]) -> u32
     wire::send(bemitondry_values::diffuse_albedo(n, material_in(a)), out)
 }
 
-#[unsafe(no_mangle)]
-pub extern "C" fn viewer_emitter_hit(lights: &[u8], args: &[u8], out: &mut [u8]) -> u32
+pub fn viewer_emitter_hit(lights: &[u8], args: &[u8], out: &mut [u8]) -> u32
     ensures { Sent (emitter_lent lights.now args.now (length out.old)) out.old result
         out.new }
 {
@@ -146,8 +137,7 @@ pub extern "C" fn viewer_emitter_hit(lights: &[u8], args: &[u8], out: &mut [u8])
     wire::send(r, out)
 }
 
-#[unsafe(no_mangle)]
-pub extern "C" fn viewer_query(
+pub fn viewer_query(
     plan: &[u8],
     nodes: &[u8],
     order: &[u8],
@@ -175,8 +165,7 @@ pub extern "C" fn viewer_query(
     wire::send(bemitondry_ask::query(n, tree, &ws, &fs), out)
 }
 
-#[unsafe(no_mangle)]
-pub extern "C" fn viewer_dist_mat(
+pub fn viewer_dist_mat(
     plan: &[u8],
     nodes: &[u8],
     order: &[u8],
@@ -204,8 +193,7 @@ pub extern "C" fn viewer_dist_mat(
     wire::send(bemitondry_ask::dist_mat(n, tree, &ws, &fs), out)
 }
 
-#[unsafe(no_mangle)]
-pub extern "C" fn viewer_trace(
+pub fn viewer_trace(
     plan: &[u8],
     nodes: &[u8],
     order: &[u8],
@@ -233,8 +221,7 @@ pub extern "C" fn viewer_trace(
     wire::send(bemitondry_ask::trace(n, tree, &ws, &fs), out)
 }
 
-#[unsafe(no_mangle)]
-pub extern "C" fn viewer_soft_shadow(
+pub fn viewer_soft_shadow(
     plan: &[u8],
     nodes: &[u8],
     order: &[u8],
@@ -262,8 +249,7 @@ pub extern "C" fn viewer_soft_shadow(
     wire::send(bemitondry_ask::soft_shadow(n, tree, &ws, &fs), out)
 }
 
-#[unsafe(no_mangle)]
-pub extern "C" fn viewer_direct(
+pub fn viewer_direct(
     plan: &[u8],
     nodes: &[u8],
     order: &[u8],
@@ -291,8 +277,7 @@ pub extern "C" fn viewer_direct(
     wire::send(bemitondry_light::direct(n, tree, &ws, &fs), out)
 }
 
-#[unsafe(no_mangle)]
-pub extern "C" fn viewer_direct_diffuse(
+pub fn viewer_direct_diffuse(
     plan: &[u8],
     nodes: &[u8],
     order: &[u8],
@@ -320,32 +305,28 @@ pub extern "C" fn viewer_direct_diffuse(
     wire::send(bemitondry_light::direct_diffuse(n, tree, &ws, &fs), out)
 }
 
-#[unsafe(no_mangle)]
-pub extern "C" fn viewer_add_material(plan: &mut [u8], args: &[u8], out: &mut [u8]) -> u32
+pub fn viewer_add_material(plan: &mut [u8], args: &[u8], out: &mut [u8]) -> u32
     ensures { MaterialSent plan.old args.now out.old result plan.new
         out.new }
 {
     wire_entry::add_material(plan, args, out)
 }
 
-#[unsafe(no_mangle)]
-pub extern "C" fn viewer_add_light(plan: &mut [u8], args: &[u8], out: &mut [u8]) -> u32
+pub fn viewer_add_light(plan: &mut [u8], args: &[u8], out: &mut [u8]) -> u32
     ensures { LightSent plan.old args.now out.old result plan.new
         out.new }
 {
     wire_entry::add_light(plan, args, out)
 }
 
-#[unsafe(no_mangle)]
-pub extern "C" fn viewer_add_plane(plan: &mut [u8], args: &[u8], out: &mut [u8]) -> u32
+pub fn viewer_add_plane(plan: &mut [u8], args: &[u8], out: &mut [u8]) -> u32
     ensures { PlaneSent plan.old args.now out.old result plan.new
         out.new }
 {
     wire_entry::add_plane(plan, args, out)
 }
 
-#[unsafe(no_mangle)]
-pub extern "C" fn viewer_add_object(
+pub fn viewer_add_object(
     plan: &mut [u8],
     nodes: &mut [u8],
     order: &mut [u8],
@@ -358,8 +339,7 @@ pub extern "C" fn viewer_add_object(
     wire_entry::add_object(plan, nodes, order, args, out)
 }
 
-#[unsafe(no_mangle)]
-pub extern "C" fn viewer_build(
+pub fn viewer_build(
     plan: &[u8],
     nodes: &mut [u8],
     order: &mut [u8],
@@ -372,8 +352,7 @@ pub extern "C" fn viewer_build(
 }
 
 // The tree is offered in the tables given (its nodes) and ranks (its order).
-#[unsafe(no_mangle)]
-pub extern "C" fn viewer_offer(
+pub fn viewer_offer(
     plan: &[u8],
     nodes: &mut [u8],
     order: &mut [u8],

@@ -7,7 +7,7 @@ use lib.Dec.{eqb}
 use lib.Ieee.{Float}
 use Rattle.words.specs.Words.{with_words}
 use Rattle.refusals.specs.Refusals.{lower}
-use Rattle.plan.specs.Plan.{Plan, seen}
+use Rattle.plan.specs.Plan.{Plan, plan_of, seen}
 use Rattle.bvh_build.specs.Tables.{size_of}
 use Rattle.reply.specs.declared.Reply.{Reply}
 use Rattle.wire.specs.Sent.{Sent}
@@ -18,20 +18,20 @@ use Rattle.bemitondry_tree.specs.Inside.Leaves.{BuildLeaves, OfferLeaves}
 use Rattle.wire_tree.specs.Trees.{build_stores, BuildOn, OfferOn}
 
 -- ---- a build
-pub build_sent
-    : (before b : ℕ) (p q : Plan) (r : Reply) (nw ow nodes order out : List ℕ) (stores : Bool) (n : ℕ)
-    (nodes' order' out' : List ℕ) → p ≡ q → before ≡ b
-    → BuildLeaves before p r nw ow
+pub build_sent : (before b : ℕ) (w t : List ℕ) (f : List Float) (r : Reply) (nw ow nodes order out : List ℕ) (stores : Bool) (n : ℕ) (nodes' order' out' : List ℕ)
+    → (w ≡ t) × (f ≡ seen w) → before ≡ b
+    → BuildLeaves before (plan_of w f) r nw ow
     → stores ≡ build_stores r.number
     → nodes' ≡ stored_table stores nw nodes
     → order' ≡ stored_table stores ow order
     → Sent r out n out'
-    → BuildOn (build_number b q) q nodes order out n nodes' order' out'
+    → BuildOn (build_number b (plan_of t (seen t))) (plan_of t (seen t)) nodes order out n nodes' order' out'
 unfolding stored_table
-build_sent before b p q r nw ow nodes order out stores n nodes' order' out' same eb e es hn ho s =
+build_sent before b w t f r nw ow nodes order out stores n nodes' order' out' l eb e es hn ho s =
+    let p : Plan = plan_of w f in
     let k = number_of r (build_number before p) (size_of p) e.reply in
     let st : stores ≡ build_stores (build_number before p) = es ∙ ap build_stores k in
-    rw (← same, ← eb)
+    rw (← l.0, ← l.1, ← eb)
     (record {
       sent = sent_as e.reply s;
       nodes_is = hn ∙ rw (st, e.nodes);

@@ -21,7 +21,7 @@ pub fn build(plan: &[u8], nodes: &mut [u8], order: &mut [u8], out: &mut [u8]) ->
 {
     let mut ws = [0u32; plan::TABLE];
     let mut fs = [0.0f32; plan::TABLE];
-    wire_used::load_plan(plan, &mut ws, &mut fs);
+    wire::load_plan(0, plan, wire::none(plan), &mut ws, &mut fs);
     let n = wire_lengths::tree_tables_before(plan.len(), nodes.len(), order.len(), 0, 0, out.len());
     let mut nw = [0u32; plan::NODES_WORDS];
     let mut ow = [0u32; plan::ORDER_WORDS];

@@ -1,4 +1,3 @@
-pub mod Kept
+pub mod Parts
 pub mod Laws
 pub mod Loads
-pub mod Parts

@@ -1,40 +1,27 @@
 -- What each part that is loaded leaves of a table, place by place, and that the parts together have the words of the
 -- whole table wherever it matters: a part has its source's words inside, and what stood before outside. Assumes
 -- nothing.
-use Prim.Native.Nat.{ℕ, zero, suc, ◌+◌, ◌*◌, ◌-◌, ◌<◌, ◌≤◌}
-use mathlib.Core.Path.{◌≡◌, refl, sym, subst, ◌∙◌, ap}
+use Prim.Native.Nat.{ℕ, ◌+◌, ◌*◌, ◌-◌, ◌<◌, ◌≤◌}
+use mathlib.Core.Path.{◌≡◌, refl, sym, ◌∙◌, ap}
 use mathlib.Core.Logic.{◌⊎◌, inl, inr, ⊎_elim}
-use mathlib.Core.Bool.{true, false, false≢true}
 use mathlib.Core.List.{List, []}
 use native.Mathlib.Decide.{dec_le}
 use native.Mathlib.Omega.{arith}
-use lib.ListN.{length, drop, replicate, length-replicate, get_or-replicate, get_or-eq_default}
+use lib.ListN.{length, drop, get_or-eq_default}
 use lib.Ieee.{Float, nan, binary32, of_bits}
 use Rattle.scalar.specs.F32.{f0}
 use Rattle.words.specs.Words.{word_at, float_at}
-use Rattle.words.proofs.Laws.{less_or}
 use Rattle.words.proofs.Runs.{length_from, word_past}
 use Rattle.plan.specs.Records.{word_of, float_of}
 use Rattle.plan.specs.Plan.{seen}
 use Rattle.plan.proofs.Rows.{float_of_lem}
-use Rattle.wire_lengths.specs.Lengths.{plan_bytes}
-use Rattle.wire.specs.Lent.{lent_of, table_of, plan_table}
+use Rattle.wire.specs.Lent.{table_of}
 use Rattle.wire.specs.Inside.Parts.{loaded_part}
 use Rattle.wire.proofs.Loads.{table_loaded}
 use Rattle.wire_used.specs.Inside.Used.{Seen, Shown, Put, Filled, EndsBy, Begins, InOrder, Early, Listed}
-use Rattle.wire_used.specs.Inside.Used.{WithCutters, right_in, right_at, Leads, Begun, Used, Spared}
+use Rattle.wire_used.specs.Inside.Used.{WithCutters, Begun, Used, Spared}
 use Rattle.wire_used.proofs.Parts.{List-ext, part_long, part_before, part_in, part_after, word_drop}
 use Rattle.wire_used.proofs.Laws.{ends_more}
-
--- ---- a new table
-pub zero_words : (n i : ℕ) → word_of (replicate n 0) i ≡ 0
-zero_words n i =
-    let l : length (replicate {A = ℕ} n 0) ≡ n = length-replicate {A = ℕ} n 0 in
-    ⊎_elim (λ h. get_or-replicate n i 0 0 h)
-    (λ h. get_or-eq_default (replicate n 0) 0 {n = i} (omega (arith, h, l))) (less_or i n)
-
-pub zero_floats : (n i : ℕ) → i < n → float_of (replicate n f0) i ≡ f0
-zero_floats n i h = get_or-replicate n i f0 nan h
 
 -- in a range, or outside it
 side : (from to i : ℕ) → ((from ≤ i) × (i < to)) ⊎ ((i < from) ⊎ (to ≤ i))
@@ -165,14 +152,8 @@ module _ (plan t w w1 w2 w3 x : List ℕ) (f f1 f2 f3 g : List Float) (m n0 n1 n
       (λ i q. ⊎_elim (λ c. inl c) (λ c. inr (c.0, omega (arith, b2, c.1))) q)) p4
       (λ i _ h. plan_is i (omega (arith, h, oo))) (λ i q. q)
 
-early_kept : (t w : List ℕ) (f : List Float) (m : ℕ) → Filled t w f (Listed t m) → Filled t w f Early
+pub early_kept : (t w : List ℕ) (f : List Float) (m : ℕ) → Filled t w f (Listed t m) → Filled t w f Early
 early_kept t w f m filled = record { same = λ i q. filled.same i (inl (inl (inl (inl q)))); shown = filled.shown }
-
--- where the rest is not loaded after all
-pub given_up
-    : (t w : List ℕ) (f : List Float) (m : ℕ) → Filled t w f (Listed t m)
-    → (false ≡ true → Spared t w) × Filled t w f Early
-given_up t w f m filled = (λ e. absurd (false≢true e), early_kept t w f m filled)
 
 pub begun_again
     : (plan nodes t w x : List ℕ) (f g : List Float) → Begun plan nodes t w f → Filled t x g Early
@@ -180,41 +161,21 @@ pub begun_again
 begun_again plan nodes t w x f g b filled =
     record { whole = b.whole; filled = filled; plan_is = b.plan_is; nodes_are = b.nodes_are }
 
--- ---- links: each place lies before the end, so places before it alone decide
-pub leads_past : (right : ℕ → ℕ) (e k a : ℕ) → Leads k right a e → a < e
-leads_past right e zero a h = let last = h.1 in omega (arith, last)
-leads_past right e (suc k) a h =
-    let on = h.0 in
-    let past = leads_past right e k (right a) h.1 in
-    omega (arith, on, past)
-
-pub leads_as
-    : (r s : ℕ → ℕ) (e : ℕ) → ((a : ℕ) → a < e → r a ≡ s a) → (k a : ℕ) → Leads k r a e → Leads k s a e
-leads_as r s e same zero a h =
-    let here = same a (leads_past r e zero a h) in
-    let end = h.0 in
-    (omega (arith, here, end), h.1)
-leads_as r s e same (suc k) a h =
-    let here = same a (leads_past r e (suc k) a h) in
-    let on = h.0 in
-    (omega (arith, here, on), subst (λ (b : ℕ). Leads k s b e) here (leads_as r s e same k (r a) h.1))
-
 -- ---- what is used, after the lists
-module _ (plan nodes t w w1 w2 x : List ℕ) (f f1 f2 g : List Float) (m e k n u v q : ℕ)
+module _ (plan nodes t w w1 w2 x : List ℕ) (f f1 f2 g : List Float) (m e n u v q : ℕ)
     (b : Begun plan nodes t w f) (o : InOrder w m) (few : word_of w 3 ≤ m) (listed : Filled t w1 f1 (Listed t m))
     (a1 : n ≡ word_of w1 1) (ends : (j : ℕ) → j < m → EndsBy w1 u (113 + j)) (low : u ≤ 1024)
     (planes_end : (j : ℕ) → j < n → EndsBy w1 q (65 + j)) (last : q ≤ 1024)
-    (e1 : e ≤ 511) (leads : Leads k (right_in nodes) 0 e)
-    (p : Put (λ i. word_at nodes (i - 22432)) w1 w2 f1 f2 22432 (22432 + 9 * e))
+    (e1 : e ≤ 27031) (e2 : (i : ℕ) → i < 22432 + 18 * m → i < 27031 → i < e)
+    (p : Put (λ i. word_at nodes (i - 22432)) w1 w2 f1 f2 22432 e)
     (begins : (j : ℕ) → j < n → Begins w1 v (65 + j)) (c : WithCutters (word_at plan) w2 x f2 g u v) where
-  filled : Filled t w2 f2 (λ i. Listed t m i ⊎ ((22432 ≤ i) × (i < 22432 + 9 * e)))
+  filled : Filled t w2 f2 (λ i. Listed t m i ⊎ ((22432 ≤ i) × (i < e)))
   filled =
-      more t w1 w2 f1 f2 22432 (22432 + 9 * e) listed p (λ i h k. b.nodes_are i h (omega (arith, k, e1))) (λ i q. q)
+      more t w1 w2 f1 f2 22432 e listed p (λ i h k. b.nodes_are i h (omega (arith, k, e1))) (λ i q. q)
 
   -- what stands outside the cutters' places stays
   kept
-      : (i : ℕ) → (i < 5904) ⊎ (22288 ≤ i) → Listed t m i ⊎ ((22432 ≤ i) × (i < 22432 + 9 * e))
-      → word_of x i ≡ word_of t i
+      : (i : ℕ) → (i < 5904) ⊎ (22288 ≤ i) → Listed t m i ⊎ ((22432 ≤ i) × (i < e)) → word_of x i ≡ word_of t i
   kept i a q = c.outside i a ∙ filled.same i q
 
   in_order : InOrder t m
@@ -251,11 +212,6 @@ module _ (plan nodes t w w1 w2 x : List ℕ) (f f1 f2 g : List Float) (m e k n u
   lists : (i : ℕ) → Listed t m i → word_of x i ≡ word_of t i
   lists i a = kept i (apart i a) (inl a)
 
-  right_is : (a : ℕ) → a < e → right_in nodes a ≡ right_at t a
-  right_is a h =
-      let at : 22432 + (9 * a + 8) - 22432 ≡ 9 * a + 8 = omega arith in
-      ap (word_at nodes) (sym at) ∙ b.nodes_are (22432 + (9 * a + 8)) (omega arith) (omega (arith, h, e1))
-
   used : Used t x m
   used =
       record {
@@ -275,11 +231,7 @@ module _ (plan nodes t w w1 w2 x : List ℕ) (f f1 f2 g : List Float) (m e k n u
         lists = lists;
         front = λ i h k. c.front i h k ∙ b.plan_is i (omega (arith, k, low));
         back = λ i h k. c.back i h k ∙ b.plan_is i k;
-        e = e;
-        links = k;
-        in_table = e1;
-        leads = leads_as (right_in nodes) (right_at t) e right_is k 0 leads;
-        nodes = λ i h l. kept i (inr (omega (arith, h))) (inr (h, l));
+        nodes = λ i h k l. kept i (inr (omega (arith, h))) (inr (h, e2 i k l));
       }
 
   pub used_law : Spared t x × Filled t x g Early
@@ -439,12 +391,3 @@ all_seen w f s =
     let wide = s.wide in
     List-ext nan f (seen w) (wide ∙ sym (length_from (float_at w) 0 27296))
     (λ i k. let j : i < 27296 = omega (arith, k, wide) in s.each i j ∙ sym (float_of_lem w i j))
-
--- ---- the table of a call that reads the plan alone
-pub plan_only
-    : (plan b x y z w : List ℕ) → b ≡ lent_of plan plan_bytes → x ≡ [] → y ≡ [] → z ≡ [] → Spared (table_of b x y z) w
-    → Spared (plan_table 0 plan []) w
-unfolding plan_table lent_of
-plan_only plan b x y z w eb ex ey ez h =
-    let same : table_of b x y z ≡ table_of (lent_of plan plan_bytes) [] [] [] = rw (eb, ex, ey, ez) refl in
-    subst (λ (t : List ℕ). Spared t w) same h

@@ -1,19 +1,19 @@
 // What a call that asks works on, loaded as far as it is used: rows past a list's count, cutters' places that no piece
-// has, and nodes past the tree are left 0. Objects take the cutters' places from the first up,
+// has, and nodes that no tree of so many objects has are left 0. Objects take the cutters' places from the first up,
 // planes from the last down.
 
 #![tactic(auto)]
 
-ghost use Rattle.std.specs.Prelude.{◌≡◌, true, List, [], ℕ, ◌+◌, ◌*◌, ◌-◌, ◌<◌, ◌≤◌, drop};
+ghost use Rattle.std.specs.Prelude.{◌≡◌, true, List, ℕ, ◌+◌, ◌*◌, ◌-◌, ◌<◌, ◌≤◌, drop};
 ghost use Rattle.scalar.specs.F32.{f0};
 ghost use Rattle.words.specs.Words.{word_at};
-ghost use Rattle.plan.specs.Sections.{planes, objects, cutter_places, plan_words, order_first, order_places};
+ghost use Rattle.plan.specs.Sections.{planes, objects, cutter_places, plan_words, nodes_first, order_first, order_places};
 ghost use Rattle.plan.specs.Sections.{table_rows, table_words};
 ghost use Rattle.plan.specs.Records.{word_of, float_of};
 ghost use Rattle.plan.specs.Plan.{seen};
-ghost use Rattle.wire.specs.Lent.{table_of, plan_table, ask_table};
+ghost use Rattle.wire.specs.Lent.{table_of, ask_table};
 ghost use Rattle.wire_used.specs.Inside.Used.{EndsBy, Begins, InOrder, Seen, Put, Filled, Early, Listed};
-ghost use Rattle.wire_used.specs.Inside.Used.{Shown, WithCutters, nodes_most, right_in, Leads, Begun, Spared};
+ghost use Rattle.wire_used.specs.Inside.Used.{Shown, WithCutters, Begun, Spared};
 
 use plan::{Floats, Words};
 
@@ -25,10 +25,8 @@ const PLACES: usize = 1024;
 // The rows of the plan.
 const PLAN_ROWS: usize = 1393;
 
-// A node's words, the last of which is the place of its right child, and how many nodes there may be.
-const NODE: usize = 9;
-
-const NODES_MOST: usize = 511;
+// The words of two nodes: a tree has less than two for an object.
+const TWO_NODES: usize = 18;
 
 // As a call's result a word is known to fit, so it may be cast.
 fn word_in(ws: &Words, i: usize) -> u32
@@ -206,20 +204,13 @@ fn load_cutters(plan: &[u8], ws: &mut Words, fs: &mut Floats, u: usize, v: usize
     rows(plan, ws, fs, CUTTERS, PLACES);
 }
 
-// How many nodes a tree has that stands: its last is found from the root by right children alone. 0 where these lead
-// past the table, as they do in no tree.
-fn tree_size(nodes: &[u8]) -> usize
-    ensures { (result ≤ nodes_most) × (0 < result → (k : ℕ) × Leads k (right_in nodes.now) 0 result) }
+// As many words of nodes as a tree of m objects may have.
+fn nodes_end(m: u32) -> usize
+    ensures { (result ≤ order_first) × (nodes_first ≤ result)
+        × ((i : ℕ) → i < nodes_first + 18 * m → i < order_first → i < result) }
 {
-    let mut at: usize = 0;
-    while at < NODES_MOST {
-        let right = words::word(nodes, NODE * at + 8);
-        if right as usize <= at {
-            return at + 1;
-        }
-        at = right as usize;
-    }
-    0
+    let e = plan::NODES + TWO_NODES * m as usize;
+    if e < plan::ORDER { e } else { plan::ORDER }
 }
 
 // The rows of the lists, with m objects.
@@ -244,7 +235,7 @@ fn load_lists(plan: &[u8], ws: &mut Words, fs: &mut Floats, m: u32)
 }
 
 // Of a table whose counts, arguments and order are loaded and in order, with m objects at most, the rest as far as it
-// is used; `false` where some piece's cutters lie past their places, or the tree past its nodes.
+// is used; `false` where some piece's cutters lie past their places.
 fn load_used(plan: &[u8], nodes: &[u8], ws: &mut Words, fs: &mut Floats, m: u32) -> bool
     ensures { (t : List ℕ)
         → Begun plan.now nodes.now t ws.old fs.old
@@ -257,12 +248,9 @@ fn load_used(plan: &[u8], nodes: &[u8], ws: &mut Words, fs: &mut Floats, m: u32)
     if u <= PLACES {
         if ends(ws, plan::PLANE_ROW, planes) <= PLACES {
             let v = begins(ws, planes);
-            let e = tree_size(nodes);
-            if e > 0 {
-                put(nodes, ws, fs, plan::NODES, plan::NODES + NODE * e);
-                load_cutters(plan, ws, fs, u, v);
-                return true;
-            }
+            put(nodes, ws, fs, plan::NODES, nodes_end(m));
+            load_cutters(plan, ws, fs, u, v);
+            return true;
         }
     }
     false
@@ -310,22 +298,6 @@ fn load(plan: &[u8], args: &[u8], nodes: &[u8], order: &[u8], ws: &mut Words, fs
         return;
     }
     load_all(plan, nodes, ws, fs);
-}
-
-// What a call works on that reads the plan alone.
-pub fn load_plan(plan: &[u8], ws: &mut Words, fs: &mut Floats)
-    ensures { ((i : ℕ) → word_of ws.old i ≡ 0)
-        → ((i : ℕ) → i < table_words → float_of fs.old i ≡ f0)
-        → Spared (plan_table 0 plan.now []) ws.new × (fs.new ≡ seen ws.new) }
-{
-    load(
-        wire::lent(plan, wire_lengths::PLAN_BYTES),
-        wire::none(plan),
-        wire::none(plan),
-        wire::none(plan),
-        ws,
-        fs,
-    );
 }
 
 // What a call works on that asks by the tree or by the list: `need` is how many bytes of arguments it reads.

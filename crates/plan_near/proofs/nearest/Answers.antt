@@ -2,15 +2,13 @@
 use borrow.Author.Rules.{rules}
 use mathlib.Core.Path.{◌≡◌, sym}
 use native.Mathlib.Omega.{arith}
-use Rattle.vectors.specs.declared.Vec3.{Vec3}
 use Rattle.plan.proofs.Lists.{nearest_none, nearest_more}
 use Rattle.plan_near.proofs.nearest.Goals as goal
 
 pub loop-j-init : goal.loop-j-init
 loop-j-init c =
     let a = c.args in
-    let p : Vec3 = record { x = a.x; y = a.y; z = a.z } in
-    (search rules, nearest_none a.ws.now a.fs.now a.r p a.best)
+    (search rules, nearest_none a.ws.now a.fs.now a.r a.p a.best)
 
 pub loop-j-preserved : goal.loop-j-preserved
 loop-j-preserved c = (

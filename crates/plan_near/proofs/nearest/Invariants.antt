@@ -7,7 +7,7 @@ use Rattle.plan_near.proofs.nearest.Given as goal
 
 abbrev pub invariant-loop-j : goal.invariant-loop-j
 invariant-loop-j l =
-    (l.j ≤ l.n) × (l.hit ≡ nearest (pieces_from l.ws l.fs l.r l.j) (record { x = l.x; y = l.y; z = l.z }) l.initial.hit)
+    (l.j ≤ l.n) × (l.hit ≡ nearest (pieces_from l.ws l.fs l.r l.j) l.p l.initial.hit)
 
 abbrev pub decreases-loop-j : goal.decreases-loop-j
 decreases-loop-j l = l.n - l.j

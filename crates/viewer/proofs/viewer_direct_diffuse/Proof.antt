@@ -1,8 +1,7 @@
 -- `viewer_direct_diffuse` meets its contract: what is sent is the call's reply. Assumes nothing.
 use Rattle.bemitondry_light.specs.Light.{direct_diffuse_reply}
 use Rattle.viewer.proofs.Same.{diffuse_same}
-use Rattle.wire_used.proofs.Loads.{zero_words, zero_floats}
-use Rattle.viewer.proofs.Lent.{ask_sent}
+use Rattle.viewer.proofs.Lent.{ask_sent, zero_words, zero_floats}
 use borrow.Author.Rules.{rules}
 use Rattle.viewer.proofs.viewer_direct_diffuse.Statement.{statement}
 use Rattle.viewer.proofs.viewer_direct_diffuse.Tie as tie

@@ -1,8 +1,7 @@
 -- `viewer_dist_mat` meets its contract: what is sent is the call's reply. Assumes nothing.
 use Rattle.bemitondry_ask.specs.Asks.{dist_mat_reply}
 use Rattle.viewer.proofs.Same.{dist_mat_same}
-use Rattle.wire_used.proofs.Loads.{zero_words, zero_floats}
-use Rattle.viewer.proofs.Lent.{ask_sent}
+use Rattle.viewer.proofs.Lent.{ask_sent, zero_words, zero_floats}
 use borrow.Author.Rules.{rules}
 use Rattle.viewer.proofs.viewer_dist_mat.Statement.{statement}
 use Rattle.viewer.proofs.viewer_dist_mat.Tie as tie

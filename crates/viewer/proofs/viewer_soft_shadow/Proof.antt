@@ -1,8 +1,7 @@
 -- `viewer_soft_shadow` meets its contract: what is sent is the call's reply. Assumes nothing.
 use Rattle.bemitondry_ask.specs.Marches.{shadow_reply}
 use Rattle.viewer.proofs.Same.{shadow_same}
-use Rattle.wire_used.proofs.Loads.{zero_words, zero_floats}
-use Rattle.viewer.proofs.Lent.{ask_sent}
+use Rattle.viewer.proofs.Lent.{ask_sent, zero_words, zero_floats}
 use borrow.Author.Rules.{rules}
 use Rattle.viewer.proofs.viewer_soft_shadow.Statement.{statement}
 use Rattle.viewer.proofs.viewer_soft_shadow.Tie as tie

@@ -1,8 +1,7 @@
 -- `viewer_trace` meets its contract: what is sent is the call's reply. Assumes nothing.
 use Rattle.bemitondry_ask.specs.Marches.{trace_reply}
 use Rattle.viewer.proofs.Same.{trace_same}
-use Rattle.wire_used.proofs.Loads.{zero_words, zero_floats}
-use Rattle.viewer.proofs.Lent.{ask_sent}
+use Rattle.viewer.proofs.Lent.{ask_sent, zero_words, zero_floats}
 use borrow.Author.Rules.{rules}
 use Rattle.viewer.proofs.viewer_trace.Statement.{statement}
 use Rattle.viewer.proofs.viewer_trace.Tie as tie

@@ -1,5 +1,5 @@
 -- What of a call's table is used, and a table that has no more than that.
-use Rattle.std.specs.Prelude.{ℕ, zero, suc, ◌+◌, ◌*◌, ◌-◌, ◌<◌, ◌≤◌, ◌≡◌, ◌⊎◌, List, length, Float}
+use Rattle.std.specs.Prelude.{ℕ, ◌+◌, ◌*◌, ◌-◌, ◌<◌, ◌≤◌, ◌≡◌, ◌⊎◌, List, length, Float}
 use Rattle.std.specs.Float.{binary32}
 use Rattle.std.specs.Float.Ieee.{of_bits}
 use Rattle.words.specs.Words.{word_at}
@@ -72,21 +72,6 @@ pub record WithCutters (source : ℕ → ℕ) (w x : List ℕ) (f g : List Float
   pub outside : (i : ℕ) → (i < cutter_first) ⊎ (plan_words ≤ i) → word_of x i ≡ word_of w i
   pub shown : Shown w f → Shown x g
 
--- ---- the links of a tree's nodes to their right children
-abbrev pub nodes_most : ℕ  -- how many nodes there may be
-nodes_most = 511
-
-abbrev pub right_in : List ℕ → ℕ → ℕ  -- the right child of the node at a place, of nodes in bytes and of a table
-right_in nodes a = word_at nodes (9 * a + 8)
-
-abbrev pub right_at : List ℕ → ℕ → ℕ
-right_at t a = word_of t (nodes_first + (9 * a + 8))
-
--- k links lead from place a on to the last place before e: each further on, and none from the last
-abbrev pub Leads : ℕ → (ℕ → ℕ) → ℕ → ℕ → Type 0
-Leads zero right a e = (right a ≤ a) × (e ≡ a + 1)
-Leads (suc k) right a e = (a < right a) × Leads k right (right a) e
-
 -- a table t whose counts, arguments and order are loaded, and where the rest of it is lent
 pub record Begun (plan nodes t w : List ℕ) (f : List Float) : Type 0 where
   pub whole : length t ≡ table_words
@@ -94,8 +79,8 @@ pub record Begun (plan nodes t w : List ℕ) (f : List Float) : Type 0 where
   pub plan_is : (i : ℕ) → i < plan_words → word_at plan i ≡ word_of t i
   pub nodes_are : (i : ℕ) → nodes_first ≤ i → i < order_first → word_at nodes (i - nodes_first) ≡ word_of t i
 
--- x has of t the rows of its lists, the cutters of its pieces, which lie among the cutters' places, and the nodes to
--- where the root's right children lead
+-- x has of t the rows of its lists, the cutters of its pieces, which lie among the cutters' places, and the nodes that
+-- a tree of m objects may have
 pub record Used (t x : List ℕ) (m : ℕ) : Type 0 where
   pub in_order : InOrder t m
   pub objects : word_of t (table.objects).count ≤ m
@@ -108,11 +93,7 @@ pub record Used (t x : List ℕ) (m : ℕ) : Type 0 where
   pub lists : (i : ℕ) → Listed t m i → word_of x i ≡ word_of t i
   pub front : SameWords t x cutter_first (cutter_first + 16 * u)
   pub back : SameWords t x (cutter_first + 16 * v) plan_words
-  pub e : ℕ
-  pub links : ℕ
-  pub in_table : e ≤ nodes_most
-  pub leads : Leads links (right_at t) 0 e
-  pub nodes : SameWords t x nodes_first (nodes_first + 9 * e)
+  pub nodes : (i : ℕ) → nodes_first ≤ i → i < nodes_first + 18 * m → i < order_first → word_of x i ≡ word_of t i
 
 pub record Spared (t x : List ℕ) : Type 0 where  -- x has of t what is used, or all
   pub long : length x ≡ table_words

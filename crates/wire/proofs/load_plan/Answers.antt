@@ -1,0 +1,12 @@
+-- `wire::load_plan` meets its contract, by those of its calls. Assumes nothing.
+use Rattle.wire.specs.Lent.{plan_table}
+use Rattle.wire.proofs.Loads.{table_by}
+use Rattle.wire.proofs.load_plan.Goals as goal
+
+pub returns : goal.returns
+unfolding plan_table
+returns c = (
+  table_by _ _ _ _ _ _ _ _ _ c.lent.ensures c.lent-2.ensures c.none.ensures
+      c.none-2.ensures c.load.ensures.0,
+  c.load.ensures.1,
+)
