@@ -10,8 +10,7 @@ use Rattle.wire.proofs.store_plan.Goals as goal
 pub returns-then-stores : goal.returns-then-stores
 unfolding stored_plan stored_front
 returns-then-stores c =
-    let l = c.store_front-arg-1.given.0 in
-    let long : 22288 ≤ length c.args.ws.now = omega (arith, l) in
+    let long : 22288 ≤ length c.args.ws.now = omega arith in
     simp c.if-stores.true (c.store_front.ensures ∙ rw (le-leb 22288 _ long))
 
 pub returns-else-stores : goal.returns-else-stores
