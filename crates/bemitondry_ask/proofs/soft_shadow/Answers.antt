@@ -1,0 +1,38 @@
+-- `bemitondry_ask::soft_shadow` meets its contract: the march's answer where the number is 0. Assumes nothing.
+use mathlib.Core.Path.{sym}
+use borrow.Author.Tests.{eq-eqb, ne_eqb}
+use Rattle.reply.specs.Reply.{reply_of}
+use Rattle.bemitondry_ask.specs.Marches.{shadow_reply}
+use Rattle.bemitondry_ask.proofs.soft_shadow.Goals as goal
+
+pub returns-then-n-eq0 : goal.returns-then-n-eq0
+unfolding shadow_reply reply_of
+returns-then-n-eq0 c =
+    rw (
+      sym c.vec_at-ro.ensures,
+      sym c.vec_at-rd.ensures,
+      sym c.ray_ok.ensures,
+      sym c.up_to.ensures,
+      sym c.both-given.ensures,
+      sym c.solids_ask.ensures,
+      sym c.tree_number.ensures,
+      sym c.lower-n.ensures,
+      eq-eqb _ 0 c.if-n-eq0.true,
+    )
+    (rw (c.done.ensures, c.bits.ensures, c.soft_shadow-s.ensures))
+
+pub returns : goal.returns
+unfolding shadow_reply reply_of
+returns c =
+    rw (
+      sym c.vec_at-ro.ensures,
+      sym c.vec_at-rd.ensures,
+      sym c.ray_ok.ensures,
+      sym c.up_to.ensures,
+      sym c.both-given.ensures,
+      sym c.solids_ask.ensures,
+      sym c.tree_number.ensures,
+      sym c.lower-n.ensures,
+      ne_eqb _ 0 c.if-n-eq0.false,
+    )
+    c.refused.ensures
