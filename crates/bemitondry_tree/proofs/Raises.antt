@@ -1,24 +1,23 @@
 -- What a build or an offer replies and leaves, case by case of the number; a tree that stands has at most 511 nodes, so
 -- its size fits a word. Assumes nothing.
-use Prim.Native.Nat.{ℕ, ◌+◌, ◌*◌, ◌≤◌, ◌<◌}
+use Prim.Native.Nat.{ℕ, ◌*◌, ◌≤◌, ◌<◌}
 use mathlib.Core.Path.{◌≡◌, refl, sym, ◌∙◌, ap}
 use mathlib.Core.Bool.{Bool, true, false, cond}
 use mathlib.Core.List.{List}
 use native.Mathlib.Omega.{arith}
 use lib.ListN.{length, replicate}
-use lib.Dec.{eqb, ltb}
+use lib.Dec.{eqb}
 use lib.Ieee.{Float}
 use borrow.Author.Tests.{eq-eqb, ne_eqb, eqb-false, lt-ltb}
 use Rattle.sdf.specs.declared.Aabb.{Aabb}
 use Rattle.words.specs.Lists.{list_from}
 use Rattle.refusals.specs.Refusals.{lower, unless, too_deep}
 use Rattle.refusals.proofs.Lowest.{lower_zero}
-use Rattle.plan.specs.Sections.{objects}
-use Rattle.plan.specs.Plan.{Plan, plan_of, count_of}
+use Rattle.plan.specs.Plan.{Plan, plan_of}
 use Rattle.plan_test.specs.Tests.{objects_number}
 use Rattle.plan_test.proofs.Exact.{objects_exact}
 use Rattle.bvh_boxes.specs.Boxes.{boxes_of}
-use Rattle.bvh_boxes.proofs.Lists.{boxes_length, box_count}
+use Rattle.bvh_boxes.proofs.Lists.{boxes_length}
 use Rattle.bvh_rules.specs.declared.Sub.{Sub}
 use Rattle.bvh_rules.specs.declared.Sub.TheVariants.{Bad, Good}
 use Rattle.bvh_rules.specs.Nodes.{nodes_of, order_of}
@@ -33,7 +32,7 @@ use Rattle.bvh_build.specs.Inside.Lays.{Builds}
 use Rattle.bvh_build.proofs.Meets.{built_size}
 use Rattle.reply.specs.declared.Reply.{Reply}
 use Rattle.reply.specs.Reply.{refused_reply, one_word, reply_of}
-use Rattle.bemitondry_tree.specs.Trees.{no_nodes, no_order, build_number, judged_tree, offered_tree}
+use Rattle.bemitondry_tree.specs.Trees.{build_number, judged_tree, offered_tree}
 use Rattle.bemitondry_tree.specs.Inside.Leaves.{BuildLeaves}
 use Rattle.bemitondry_tree.specs.Trees.{offer_number, size_in, front_word}
 use Rattle.bemitondry_tree.specs.Inside.Leaves.{OfferLeaves}

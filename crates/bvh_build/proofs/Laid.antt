@@ -1,7 +1,7 @@
 -- A list laid over another: in two parts, its length, what is read of it, and two layings that do not meet commute. By
 -- induction on what is laid. Assumes nothing.
-use Rattle.std.proofs.Common.{◌≡◌, ℕ, zero, suc, ◌+◌, ◌<◌, ◌≤◌, List, [], ◌∷◌, ◌++◌, length, get_or, drop, set, sym, refl, ap, ◌∙◌, append-nil, add-zero, arith, length-set, get_or-set_other, get_or-set_same}
-use lib.Seq.{set_out, set_comm, sets, sets-eq, drop-length}
+use Rattle.std.proofs.Common.{◌≡◌, ℕ, zero, suc, ◌+◌, ◌<◌, ◌≤◌, List, [], ◌∷◌, ◌++◌, length, get_or, drop, set, sym, refl, ap, ◌∙◌, add-zero, arith, length-set, get_or-set_other, get_or-set_same}
+use lib.Seq.{set_out, set_comm, sets, sets-eq}
 use Rattle.bvh_build.specs.Encode.{laid}
 
 module _ {A : Type 0} where

@@ -1,7 +1,7 @@
 -- `bvh_build::build_recursive` meets its contract: each return is a case of one level, and the range shrinks at each
 -- call. Assumes nothing.
 use Rattle.std.proofs.Common.{◌≡◌, ℕ, ◌++◌, length, drop, sym, arith}
-use Rattle.bvh_build.proofs.Level.{Cut, cut_known, back_length, right_falls, whole_length, lays_none}
+use Rattle.bvh_build.proofs.Level.{Cut, cut_known, back_length, right_falls, lays_none}
 use Rattle.bvh_build.proofs.Level.{lays_leaf}
 use Rattle.bvh_build.proofs.Level.{lays_node}
 use Rattle.bvh_build.proofs.+build_recursive.Goals as goal
