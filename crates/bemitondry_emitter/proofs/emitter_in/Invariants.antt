@@ -1,0 +1,13 @@
+-- What the loops of `bemitondry_emitter::emitter_in` keep, and what falls.
+use Prim.Native.Nat.{◌≤◌, ◌-◌}
+use mathlib.Core.Path.{◌≡◌}
+use Rattle.words.specs.Lists.{list_from}
+use Rattle.emitter.specs.Emitter.{emitter_of}
+use Rattle.bemitondry_emitter.specs.Emitter.{lent_light}
+use Rattle.bemitondry_emitter.proofs.emitter_in.Given as goal
+
+abbrev pub invariant-loop-i : goal.invariant-loop-i
+invariant-loop-i l = (l.i ≤ l.n) × (l.best ≡ emitter_of (list_from (lent_light l.b) 0 l.i) l.ro l.rd l.tmax)
+
+abbrev pub decreases-loop-i : goal.decreases-loop-i
+decreases-loop-i l = l.n - l.i
