@@ -318,6 +318,9 @@ module _ (plan args nodes order z : List ℕ) (l : length z ≡ 27296) where
   order_word i h k = sym (from4 i k ∙ part_in order t3 t4 27031 27287 (omega arith) (omega (arith, m3)) refl i h k)
 
 -- ---- a new table, with counts, arguments and order
+from_order : (i : ℕ) → 27031 ≤ i → (27287 ≤ i) ⊎ ((27031 ≤ i) × (i < 27287))
+from_order i a = elim (dec_le 27287 i) [ yes c ↦ inl c | no c ↦ inr (a, omega (arith, c)) ]
+
 module _ (plan args nodes order z w1 w2 w : List ℕ) (k f1 f2 f : List Float) (l : length z ≡ 27296)
     (n : length k ≡ 27296) (zero : (i : ℕ) → word_of z i ≡ 0) (none : (i : ℕ) → i < 27296 → float_of k i ≡ f0)
     (p1 : Put (word_at plan) z w1 k f1 (16 * 0) (16 * (0 + 1)))
@@ -346,8 +349,7 @@ module _ (plan args nodes order z w1 w2 w : List ℕ) (k f1 f2 f : List Float) (
       (λ i q. ⊎_elim (λ a. ⊎_elim (λ b. inl (inl b)) (λ b. inr b) a) (λ a. inl (inr a)) q)) p3
       (λ i h g. order_word plan args nodes order z l i h g)
       (λ i q.
-      ⊎_elim (λ a. inl (inl a))
-      (λ a. elim (dec_le 27287 i) [ yes c ↦ inl (inr c) | no c ↦ inr (a, omega (arith, c)) ]) q)
+      ⊎_elim (λ a. inl (inl a)) (λ a. ⊎_elim (λ b. inl (inr b)) (λ b. inr b) (from_order i a)) q)
 
   pub begun : Begun plan nodes whole w f
   begun =

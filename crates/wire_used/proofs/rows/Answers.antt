@@ -1,0 +1,15 @@
+-- `wire_used::rows` meets its contract: the words of a row stand where the plan's bytes say. Assumes nothing.
+use native.Mathlib.Omega.{arith}
+use Rattle.wire_used.proofs.Loads.{rows_law}
+use Rattle.wire_used.proofs.rows.Goals as goal
+
+pub returns-then-first-n : goal.returns-then-first-n
+returns-then-first-n c = λ h.
+    rows_law _ _ _ _ _ _ _ _ c.rest.ensures
+    (c.put.ensures (omega arith) (omega (arith, h)))
+
+pub returns-else-first-n : goal.returns-else-first-n
+returns-else-first-n c = λ h. let no : ⊥ = omega (arith, h, c.if-first-n.false, c.if-n-le-ROWS.true) in absurd no
+
+pub returns-else-n-le-ROWS : goal.returns-else-n-le-ROWS
+returns-else-n-le-ROWS c = λ h. let no : ⊥ = omega (arith, h, c.if-n-le-ROWS.false) in absurd no
