@@ -1,15 +1,15 @@
 -- A call that asks reads the same of a table that is loaded as far as it is used as of the whole one: no piece of the
 -- plan, and none that the order names, has a cutter among those left out, and no tree of so many objects a node.
 -- Assumes nothing.
-use Prim.Native.Nat.{ℕ, ◌+◌, ◌*◌, ◌-◌, ◌<◌, ◌≤◌}
+use Prim.Native.Nat.{ℕ, ◌+◌, ◌*◌, ◌<◌, ◌≤◌}
 use mathlib.Core.Path.{◌≡◌, sym, subst, ◌∙◌, ap}
-use mathlib.Core.Logic.{◌⊎◌, inl, inr, ⊎_elim}
+use mathlib.Core.Logic.{inl, inr, ⊎_elim}
 use mathlib.Core.List.{List}
 use native.Mathlib.Decide.{dec_le}
 use native.Mathlib.Omega.{arith}
 use lib.ListN.{length, take, drop, get_or, length-drop, get_or-eq_default}
 use lib.Seq.{get_or-take, get_or-drop, length-take-le}
-use lib.Ieee.{Float, nan}
+use lib.Ieee.{nan}
 use Rattle.words.specs.Words.{float_at}
 use Rattle.words.proofs.Runs.{length_from, get_d_from}
 use Rattle.plan.specs.Records.{word_of, float_of, head_at}

@@ -339,12 +339,7 @@ pub fn viewer_add_object(
     wire_entry::add_object(plan, nodes, order, args, out)
 }
 
-pub fn viewer_build(
-    plan: &[u8],
-    nodes: &mut [u8],
-    order: &mut [u8],
-    out: &mut [u8],
-) -> u32
+pub fn viewer_build(plan: &[u8], nodes: &mut [u8], order: &mut [u8], out: &mut [u8]) -> u32
     ensures { BuildSent plan.now nodes.old order.old out.old result
         nodes.new order.new out.new }
 {
