@@ -1,5 +1,5 @@
 -- One level of the builder: a range that stops is a leaf, any other is two smaller ranges joined, and as many calls as
--- there are objects are enough. By `cut-mid` and induction on the calls left. Assumes nothing.
+-- there are objects are enough. By `cut_mid` and induction on the calls left. Assumes nothing.
 use Rattle.std.proofs.Common.{◌≡◌, ℕ, zero, suc, ◌+◌, ◌-◌, ◌<◌, ◌≤◌, Bool, true, false, ◌||◌, T, leb, List, length, take, drop, sym, refl, ap, ◌∙◌, subst, arith, length-drop, length-take-le, leb-false}
 use lib.Ieee.{lt}
 use Rattle.sdf.specs.declared.Aabb.{Aabb}

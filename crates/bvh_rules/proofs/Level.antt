@@ -1,4 +1,4 @@
--- One level of `checkOf`, by what the node is, and what a node that is good tells of its places. Each by the tests
+-- One level of `check_of`, by what the node is, and what a node that is good tells of its places. Each by the tests
 -- taken. Assumes nothing.
 use Prim.Native.Nat.{ℕ, zero, suc, ◌+◌, ◌-◌, ◌<◌}
 use mathlib.Core.Path.{◌≡◌, refl, sym}

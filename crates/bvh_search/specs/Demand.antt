@@ -1,7 +1,7 @@
 -- What holds of every search of an accepted tree: "the search never needs a 65th place, its two counts are document
 -- 01's, its answer is the least by value of the starting bound and those distances worked out that are numbers, and
 -- every piece passed over lies under a box worked out to be no nearer than that answer". Definitions only; the theorem
--- is `demand-met` of proofs/Demand.antt.
+-- is `demand_met` of proofs/Demand.antt.
 use Rattle.std.specs.Prelude.{◌≡◌, ℕ, ◌+◌, ◌<◌, ◌≤◌, true, T, ◌⊎◌, List, [], ◌∷◌, length, Float}
 use Rattle.std.specs.Float.Ieee.{le, eq}
 use Rattle.vectors.specs.declared.Vec3.{Vec3}

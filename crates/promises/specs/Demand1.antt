@@ -1,5 +1,5 @@
 -- "A piece and its cutters enter together or nothing changes; each refusal has the number, the answer and the memory
--- that document 01 gives": of the exported calls, on bytes. Definitions only; the theorem is `demand-one` of
+-- that document 01 gives": of the exported calls, on bytes. Definitions only; the theorem is `demand_one` of
 -- proofs/Demand1.antt.
 use Rattle.std.specs.Prelude.{ℕ, ◌+◌, ◌*◌, ◌<◌, ◌≤◌, ◌≡◌, ◌↔◌, Bool, true, false, List, [], T, length, replicate}
 use Rattle.scalar.specs.F32.{f1}

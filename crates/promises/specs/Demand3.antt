@@ -2,7 +2,7 @@
 -- accepted tree the search never needs a 65th place, its two counts are document 01's, its answer is the least by value
 -- of the starting bound and those distances worked out that are numbers, and every piece passed over lies under a box
 -- worked out to be no nearer than that answer": of the exported calls, on bytes. Definitions only; the theorem is
--- `demand-three` of proofs/Demand3.antt.
+-- `demand_three` of proofs/Demand3.antt.
 use Rattle.std.specs.Prelude.{ℕ, ◌<◌, ◌≤◌, ◌≡◌, ◌↔◌, ◌⊎◌, true, List, [], ◌∷◌, map, length}
 use Rattle.vectors.specs.declared.Vec3.{Vec3}
 use Rattle.words.specs.Lists.{All}

@@ -1,4 +1,4 @@
--- What `rootOf` gives is the root: nearer to √x than every other f32 is. No other f32 is. And it grows with x. Assumes
+-- What `root_of` gives is the root: nearer to √x than every other f32 is. No other f32 is. And it grows with x. Assumes
 -- nothing.
 use Rattle.std.proofs.Common.{◌≡◌, ℕ, zero, suc, ◌+◌, ◌-◌, ◌*◌, ◌/◌, ◌%◌, ◌^◌, ◌<◌, ◌≤◌, Bool, true, false, cond, not, T, eqb, ltb, leb, ℤ, pos, negsuc, sym, refl, ap, ◌∙◌, subst, lt_trans, lt_irrefl, mod-eq_of_lt, add_comm, le_antisymm, lt_of_not-le, zero-mul, mul-one, not-le_of_lt, mul-div_cancel, arith, le→leb, eqb→eq, ltb→lt, leb→le, nltb→le, pow_pos}
 use native.Mathlib.Nat.{zero-div, pow-succ'}
@@ -199,7 +199,7 @@ root_plain x h =
 pub root_units : (x : Float) → T (plain x) → units (root_of x) ≡ val (root_bits (units x))
 root_units x h = ap units (root_opened x h) ∙ bits_units (root_bits (units x)) (root_small (units x) (plain_under x h))
 
--- `rootOf` gives the root
+-- `root_of` gives the root
 pub root_is : (x : Float) → T (plain x) → IsRoot x (root_of x)
 root_is x h =
     let n = units x in

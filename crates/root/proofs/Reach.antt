@@ -1,6 +1,6 @@
 -- A root against w by the square of w, worked out in f64, which holds it: where x is at least that the root is at least
 -- w, where x is at most that the root is at
--- most w. Weaker than `bar-law`, and cheaper: no bits are looked at. Assumes nothing.
+-- most w. Weaker than `bar_law`, and cheaper: no bits are looked at. Assumes nothing.
 use Rattle.std.proofs.Common.{◌≡◌, ℕ, suc, ◌+◌, ◌-◌, ◌*◌, ◌^◌, ◌<◌, ◌≤◌, false, T, sym, ap, ◌∙◌, subst, le_trans, le_of_eq, lt_of_lt_of_le, le_of_suc-le-suc, mul_assoc, mul-le-mul, lt_of_not-le, not-le_of_lt, le_of_mul-le-mul_right, arith, lit≤, pow_pos, pow-add}
 use native.Mathlib.Nat.{mul-mul-mul_comm}
 use lib.Ieee.{Float, binary32, binary64, mul, to_bits, le}

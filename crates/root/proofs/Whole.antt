@@ -1,4 +1,4 @@
--- The cases of `root`: which values pass its two tests, and what `rootOf` is at each. Assumes nothing.
+-- The cases of `root`: which values pass its two tests, and what `root_of` is at each. Assumes nothing.
 use Rattle.std.proofs.Common.{◌≡◌, ℕ, zero, suc, ◌-◌, ◌*◌, ◌%◌, ◌<◌, ◌≤◌, Bool, true, false, cond, not, ◌&&◌, ◌||◌, T, eqb, ltb, pos, negsuc, sym, refl, ap, ◌∙◌, subst, inl, inr, true≢false, le_refl, le_of_lt, zero-lt-suc, eq-zero-or-pos, mul-pos, zero-mul, not-le_of_lt, arith, lit<, eqb→eq, ltb→lt, lt→ltb}
 use mathlib.Core.Bool.{beq, false≢true}
 use lib.Dec.{not_T}

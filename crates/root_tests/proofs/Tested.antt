@@ -1,5 +1,5 @@
 -- A guess at the root that is tested: r is the root of x where x is at least the bar of r and below that of the next
--- f32. By `bar-law`. Assumes nothing.
+-- f32. By `bar_law`. Assumes nothing.
 use mathlib.Core.Path.{◌≡◌, sym, ap, ◌∙◌, subst}
 use mathlib.Core.Bool.{true, false}
 use Prim.Native.Nat.{ℕ, ◌+◌, ◌≤◌, ◌<◌}

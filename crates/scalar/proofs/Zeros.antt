@@ -1,4 +1,4 @@
--- Magnitude and sign by tests with zero: each test's outcome says which case of `absOf` and `signumOf` it is. By the
+-- Magnitude and sign by tests with zero: each test's outcome says which case of `abs_of` and `signum_of` it is. By the
 -- cases of a value. Assumes nothing.
 use mathlib.Core.Path.{◌≡◌, refl, sym, ap, ◌∙◌, subst}
 use Prim.Native.Nat.{ℕ, zero, suc, ◌+◌, ◌*◌, ◌/◌, ◌^◌, ◌≤◌, ◌<◌}

@@ -1,4 +1,4 @@
--- `bemitondry_entry::added_reply` meets its contract: each return is a case of `addedReply`. Assumes nothing.
+-- `bemitondry_entry::added_reply` meets its contract: each return is a case of `added_reply`. Assumes nothing.
 use Rattle.bemitondry_entry.specs.Inside.Enters.{added_reply}
 use Rattle.bemitondry_entry.proofs.added_reply.Goals as goal
 

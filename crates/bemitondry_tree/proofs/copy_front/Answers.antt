@@ -1,4 +1,4 @@
--- `bemitondry_tree::copy_front` meets its contract: the words passed are those of `frontWord`. Assumes nothing.
+-- `bemitondry_tree::copy_front` meets its contract: the words passed are those of `front_word`. Assumes nothing.
 use Prim.Native.Nat.{ℕ}
 use mathlib.Core.Path.{◌∙◌, ap}
 use mathlib.Core.Bool.{cond}

@@ -11,7 +11,7 @@ returns-then-n-eq0 c =
     let count = objects_count _ _ _ c.object_count.ensures in
     offers _ _ _ _ _ _ _ c.objects_number-o.ensures c.if-o-eq0.true c.judge-s.ensures
     c.offered_number.ensures c.lower-n.ensures (omega arith) _ _ _ _ _ _ _
-    _ c.copy_front-arg-1.given.0.1 c.copy_front-arg-then-n-eq0-1.given.0.1 c.if-n-eq0.true
+    _ (omega arith) (omega arith) c.if-n-eq0.true
     c.size_in.ensures c.narrow-size.ensures count c.copy_front.ensures c.copy_front-then-n-eq0.ensures
     c.done.ensures
 
@@ -19,11 +19,11 @@ pub returns-then-o-eq0 : goal.returns-then-o-eq0
 unfolding judged_tree
 returns-then-o-eq0 c =
     offers_bad _ _ _ _ _ _ _ c.objects_number-o.ensures c.if-o-eq0.true c.judge-s.ensures
-    c.offered_number.ensures c.lower-n.ensures _ _ _ _ _ c.clear-arg-1.given.0.1
-    c.clear-arg-then-o-eq0-1.given.0.1 c.clear.ensures c.clear-then-o-eq0.ensures c.if-n-eq0.false c.refused.ensures
+    c.offered_number.ensures c.lower-n.ensures _ _ _ _ _ (omega arith)
+    (omega arith) c.clear.ensures c.clear-then-o-eq0.ensures c.if-n-eq0.false c.refused.ensures
 
 pub returns : goal.returns
 returns c =
     offers_not _ _ _ _ _ _ _ _ _ _ c.objects_number-o.ensures c.if-o-eq0.false c.lower.ensures
-    c.clear-arg-2-1.given.0.1 c.clear-arg-3-1.given.0.1 c.clear-2.ensures c.clear-3.ensures
+    (omega arith) (omega arith) c.clear-2.ensures c.clear-3.ensures
     c.refused-2.ensures

@@ -11,8 +11,7 @@ returns-then-n-gt256 c = unbuilt _ _ _ _ _ c.object_count-n.ensures c.if-n-gt256
 
 pub returns : goal.returns
 returns c =
-    let l = c.build_front-arg-2-1.given.0.1 in
     let n = c.object_count-n.ensures in
     few_built _ _ _ _ _ _ _ _ n (omega (arith, c.if-n-gt256.false))
-    (c.build_front.ensures (objects_count _ _ _ n) l (pos_of_ne-zero c.if-n-eq0.false)
+    (c.build_front.ensures (objects_count _ _ _ n) (omega arith) (pos_of_ne-zero c.if-n-eq0.false)
     (omega (arith, c.if-n-gt256.false)))

@@ -1,4 +1,4 @@
--- `bvh_check::judge` meets its contract: each return is a case of `judgeOf`. Assumes nothing.
+-- `bvh_check::judge` meets its contract: each return is a case of `judge_of`. Assumes nothing.
 use mathlib.Core.Path.{sym, ◌∙◌}
 use Rattle.bvh_rules.proofs.Level.{judge_none, judge_order, judge_whole}
 use Rattle.bvh_check.proofs.judge.Goals as goal

@@ -1,4 +1,4 @@
--- `bvh_check::leaf_ok` meets its contract: each return is a case of `leafOk`. Assumes nothing.
+-- `bvh_check::leaf_ok` meets its contract: each return is a case of `leaf_ok`. Assumes nothing.
 use Rattle.bvh_rules.proofs.Level.{leaf_good, leaf_bad}
 use mathlib.Core.Path.{sym, ◌∙◌}
 use Rattle.bvh_check.proofs.leaf_ok.Goals as goal

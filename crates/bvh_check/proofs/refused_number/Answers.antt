@@ -1,4 +1,4 @@
--- `bvh_check::refused_number` meets its contract: each return is a case of `refusedNumber`. Assumes nothing.
+-- `bvh_check::refused_number` meets its contract: each return is a case of `refused_number`. Assumes nothing.
 use mathlib.Core.Path.{sym}
 use Rattle.bvh_check.proofs.refused_number.Goals as goal
 

@@ -1,4 +1,4 @@
--- `bvh_check::standing_number` meets its contract: each return is a case of `standingNumber`. Assumes nothing.
+-- `bvh_check::standing_number` meets its contract: each return is a case of `standing_number`. Assumes nothing.
 use mathlib.Core.Path.{sym}
 use Rattle.bvh_rules.specs.Check.{standing_number}
 use Rattle.bvh_check.proofs.standing_number.Goals as goal

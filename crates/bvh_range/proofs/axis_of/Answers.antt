@@ -1,4 +1,4 @@
--- `bvh_range::axis_of` meets its contract: each return is a case of `axisOf`. Assumes nothing.
+-- `bvh_range::axis_of` meets its contract: each return is a case of `axis_of`. Assumes nothing.
 use mathlib.Core.Path.{sym}
 use Rattle.bvh_range.specs.Range.{axis_of}
 use Rattle.bvh_range.proofs.axis_of.Goals as goal

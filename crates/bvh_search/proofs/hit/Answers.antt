@@ -1,4 +1,4 @@
--- `bvh_search::hit` meets its contract: each return is a case of `hitBy`. Assumes nothing.
+-- `bvh_search::hit` meets its contract: each return is a case of `hit_by`. Assumes nothing.
 use Rattle.std.proofs.Common.{eq-eqb, ne_eqb}
 use Rattle.bvh_search.specs.Field.{hit_by}
 use Rattle.bvh_search.proofs.hit.Goals as goal

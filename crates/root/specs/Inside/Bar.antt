@@ -1,6 +1,6 @@
 -- What a square is held against so that no root is taken: the root of x is at least b exactly where x is at least
--- `barOf b`, the square of the midpoint of b and the f32 just below, which an f64 holds. Definitions only; the law is
--- `bar-law` of proofs/BarLaw.antt.
+-- `bar_of b`, the square of the midpoint of b and the f32 just below, which an f64 holds. Definitions only; the law is
+-- `bar_law` of proofs/BarLaw.antt.
 use Rattle.std.specs.Prelude.{◌-◌, false, cond, pos, negsuc, from_bits, to_bits, Float}
 use Rattle.std.specs.Float.{fin, binary32, binary64}
 use Rattle.std.specs.Float.Ieee.{add, mul, lt}
@@ -17,7 +17,7 @@ bar b = mul binary64 (middle b) (middle b)
 unfoldable pub bar_of : Float → Float  -- for every b: 0 where b is not above zero
 bar_of b = cond (lt (fin false 0 (pos 0)) b) (bar b) (fin false 0 (pos 0))
 
--- 1 and 2 ^ -20: two roots differ where the greater square is at least the lesser one times this (`apart-law` of
+-- 1 and 2 ^ -20: two roots differ where the greater square is at least the lesser one times this (`apart_law` of
 -- proofs/Apart.antt)
 abbrev pub apart_by : Float
 apart_by = from_bits binary64 0x3ff0_0001_0000_0000

@@ -1,4 +1,4 @@
--- `root_tests::far_off` meets its contract: by `far-by-limit`. Assumes nothing.
+-- `root_tests::far_off` meets its contract: by `far_by_limit`. Assumes nothing.
 use mathlib.Core.Path.{sym, subst}
 use lib.Dec.{T}
 use Rattle.root_tests.proofs.Squares.{far_by_limit}

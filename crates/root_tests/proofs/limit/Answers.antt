@@ -1,4 +1,4 @@
--- `root_tests::limit` meets its contract: each return is a case of `limitOf`. Assumes nothing.
+-- `root_tests::limit` meets its contract: each return is a case of `limit_of`. Assumes nothing.
 use lib.Ieee.{of_bits, div}
 use Rattle.root_tests.specs.Inside.Tests.{limit_of}
 use Rattle.root_tests.proofs.limit.Goals as goal

@@ -1,4 +1,4 @@
--- `root_tests::stays` meets its contract: by `stay-law`. Assumes nothing.
+-- `root_tests::stays` meets its contract: by `stay_law`. Assumes nothing.
 use mathlib.Core.Path.{◌≡◌, sym, subst, ◌∙◌}
 use mathlib.Core.Bool.{true, false, false≢true}
 use lib.Dec.{T}

@@ -1,4 +1,4 @@
--- `sdf_caps::ends` meets its contract: by `ends-past`. Assumes nothing.
+-- `sdf_caps::ends` meets its contract: by `ends_past`. Assumes nothing.
 use Rattle.sdf_caps.proofs.Cones.{ends_past, ends_none}
 use Rattle.sdf_caps.proofs.ends.Goals as goal
 

@@ -1,4 +1,4 @@
--- `sdf_caps::sides` meets its contract: by `sides-past`. Assumes nothing.
+-- `sdf_caps::sides` meets its contract: by `sides_past`. Assumes nothing.
 use Rattle.sdf_caps.proofs.Cones.{sides_past, sides_none}
 use Rattle.sdf_caps.proofs.sides.Goals as goal
 

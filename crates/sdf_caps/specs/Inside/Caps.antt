@@ -11,14 +11,14 @@ use Rattle.float_order.specs.Inside.Order.{number}
 abbrev pub outside : Float → Float  -- the square of how far x is above zero
 outside x = beyond x (x ⊗ x)
 
--- `cylinderSquare`, the square y2 of y and what of it is outside worked out before
+-- `cylinder_square`, the square y2 of y and what of it is outside worked out before
 abbrev pub signed_square : Float → Float → Float → Float → Float
 signed_square x y y2 by = cond (lt (fmax x y) f0) (neg (fmin (x ⊗ x) y2)) (outside x ⊕ by)
 
 abbrev pub rooted : Float → Float → Float  -- the distance from its signed square
 rooted d baba = signum_of d ⊗ root_of (abs_of d) ⊘ baba
 
--- `cylinderBody` from the square q of the way to the axis, times baba, and the radius times baba
+-- `cylinder_body` from the square q of the way to the axis, times baba, and the radius times baba
 abbrev pub cylinder_at : Float → Float → Float → Float → Float
 cylinder_at q y baba rb = rooted (cylinder_square (root_of q ⊖ rb) y baba) baba
 
@@ -47,7 +47,7 @@ cone_square x paba cay baba ra rb rba =
     let f = cone_foot x paba baba ra rba in
     fmin (sq (fmax f0 (x ⊖ cone_end paba ra rb)) ⊕ sq cay ⊗ baba) (sq (cbx_at x ra rba f) ⊕ sq (paba ⊖ f) ⊗ baba)
 
--- `coneAt`, cay and rba worked out before
+-- `cone_at`, cay and rba worked out before
 abbrev pub cone_by : Float → Float → Float → Float → Float → Float → Float → Float
 cone_by x paba cay baba ra rb rba =
     cone_sign (cbx_at x ra rba (cone_foot x paba baba ra rba)) cay ⊗ root_of (cone_square x paba cay baba ra rb rba)

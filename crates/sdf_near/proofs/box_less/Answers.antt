@@ -1,4 +1,4 @@
--- `sdf_near::box_less` meets its contract: by `box-far` where the guess is reached, else by definition. Assumes
+-- `sdf_near::box_less` meets its contract: by `box_far` where the guess is reached, else by definition. Assumes
 -- nothing.
 use mathlib.Core.Path.{sym, subst, refl}
 use mathlib.Core.Logic.{inl, inr}

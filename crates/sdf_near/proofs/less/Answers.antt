@@ -1,4 +1,4 @@
--- `sdf_near::less` meets its contract: by `root-far` where the guess is reached, else by definition. Assumes nothing.
+-- `sdf_near::less` meets its contract: by `root_far` where the guess is reached, else by definition. Assumes nothing.
 use mathlib.Core.Path.{refl}
 use mathlib.Core.Logic.{inl, inr}
 use Rattle.sdf_near.proofs.Far.{root_far}

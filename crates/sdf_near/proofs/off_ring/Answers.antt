@@ -1,4 +1,4 @@
--- `sdf_near::off_ring` meets its contract: by `ring_out`, `ring_in` and `ring-none`. Assumes nothing.
+-- `sdf_near::off_ring` meets its contract: by `ring_out`, `ring_in` and `ring_none`. Assumes nothing.
 use Rattle.sdf_near.proofs.Far.{ring_out, ring_in, ring_none}
 use Rattle.sdf_near.proofs.off_ring.Goals as goal
 

@@ -1,4 +1,4 @@
--- `sdf_near::size` meets its contract: by `size_above` and `size-other`. Assumes nothing.
+-- `sdf_near::size` meets its contract: by `size_above` and `size_other`. Assumes nothing.
 use mathlib.Core.Path.{sym, subst}
 use lib.Dec.{T}
 use Rattle.sdf_near.proofs.Sizes.{size_above, size_other}

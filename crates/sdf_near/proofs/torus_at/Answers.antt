@@ -1,4 +1,4 @@
--- `sdf_near::torus_at` meets its contract: by `torus-far` where the guess is reached, else by that of `less`. Assumes
+-- `sdf_near::torus_at` meets its contract: by `torus_far` where the guess is reached, else by that of `less`. Assumes
 -- nothing.
 use mathlib.Core.Path.{refl, sym}
 use mathlib.Core.Logic.{inr}

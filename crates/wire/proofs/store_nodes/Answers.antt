@@ -1,4 +1,4 @@
--- `wire::store_nodes` meets its contract: each return is a case of `storedTable`. Assumes nothing.
+-- `wire::store_nodes` meets its contract: each return is a case of `stored_table`. Assumes nothing.
 use Rattle.wire.specs.Inside.Parts.{stored_table}
 use Rattle.wire.proofs.store_nodes.Goals as goal
 

@@ -1,4 +1,4 @@
--- `wire::store_order` meets its contract: each return is a case of `storedTable`. Assumes nothing.
+-- `wire::store_order` meets its contract: each return is a case of `stored_table`. Assumes nothing.
 use Rattle.wire.specs.Inside.Parts.{stored_table}
 use Rattle.wire.proofs.store_order.Goals as goal
 

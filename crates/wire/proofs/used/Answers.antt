@@ -1,4 +1,4 @@
--- `wire::used` meets its contract: each return is a case of `usedOf`. Assumes nothing.
+-- `wire::used` meets its contract: each return is a case of `used_of`. Assumes nothing.
 use borrow.Author.Tests.{eq-eqb, ne_eqb}
 use Rattle.wire.specs.Lent.{used_of}
 use Rattle.wire.proofs.used.Goals as goal

@@ -1,4 +1,4 @@
--- `wire_lengths::tree_before` meets its contract: each return is a case of `treeBefore`. Assumes nothing.
+-- `wire_lengths::tree_before` meets its contract: each return is a case of `tree_before`. Assumes nothing.
 use borrow.Author.Tests.{eq-eqb, ne_eqb}
 use Rattle.wire_lengths.specs.Lengths.{tree_before}
 use Rattle.wire_lengths.proofs.tree_before.Goals as goal

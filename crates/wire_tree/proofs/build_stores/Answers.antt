@@ -1,4 +1,4 @@
--- `wire_tree::build_stores` meets its contract: each return is a case of `buildStores`. Assumes nothing.
+-- `wire_tree::build_stores` meets its contract: each return is a case of `build_stores`. Assumes nothing.
 use borrow.Author.Tests.{eq-eqb, ne_eqb}
 use Rattle.wire_tree.specs.Trees.{build_stores}
 use Rattle.wire_tree.proofs.build_stores.Goals as goal
