@@ -1,6 +1,7 @@
 // The room from above, in marks: 20 lines of 48, each mark for 0.2 m by 0.4 m of the room.
 use crate::pieces::at;
 use crate::{pieces, room, survey, text};
+use std::io;
 
 // The middle of place i.
 fn place_x(i: u16) -> f32 {
@@ -102,30 +103,31 @@ pub fn look_again(
     }
 }
 
-fn border() {
-    text::say(b"+------------------------------------------------");
-    text::say(b"+------------------------------------------------+\n");
+fn border(rt: &impl Print) -> io::Result<()> {
+    text::say(rt, b"+------------------------------------------------")?;
+    text::say(rt, b"+------------------------------------------------+\n")
 }
 
 // Line k of a picture.
-fn line(marks: &[u8], k: u8) {
+fn line(rt: &impl Print, marks: &[u8], k: u8) -> io::Result<()> {
     let from = 48 * (k as usize);
     if from + 48 <= marks.len() {
-        text::say(&marks[from..from + 48]);
+        return text::say(rt, &marks[from..from + 48]);
     }
+    Ok(())
 }
 
 // Two pictures side by side.
-pub fn show(left: &[u8; 960], right: &[u8; 960]) {
-    border();
+pub fn show(rt: &impl Print, left: &[u8; 960], right: &[u8; 960]) -> io::Result<()> {
+    border(rt)?;
     let mut k: u8 = 0;
     while k < 20 {
-        text::say(b"|");
-        line(left, k);
-        text::say(b"|");
-        line(right, k);
-        text::say(b"|\n");
+        text::say(rt, b"|")?;
+        line(rt, left, k)?;
+        text::say(rt, b"|")?;
+        line(rt, right, k)?;
+        text::say(rt, b"|\n")?;
         k += 1;
     }
-    border();
+    border(rt)
 }

@@ -1,6 +1,7 @@
 // The classroom, in metres: x goes along the board's wall, y up, z from the board to the back.
 use crate::pieces::{Piece, at, bar, block, less};
 use crate::{pieces, text};
+use std::io;
 use vectors::Vec3;
 
 pub const WALL: u32 = 0;
@@ -168,7 +169,7 @@ fn room_piece(k: u8) -> Piece {
     }
 }
 
-pub fn add_materials(plan: &mut [u8]) {
+pub fn add_materials(rt: &impl Print, plan: &mut [u8]) -> io::Result<()> {
     let mut k: u8 = 0;
     while k < 8 {
         let mut args = [0u8; 20];
@@ -176,9 +177,10 @@ pub fn add_materials(plan: &mut [u8]) {
         let g = grey(k);
         pieces::put_vec(&mut args, 0, at(g, g, g));
         pieces::put_float(&mut args, 3, 0.5);
-        text::entered(viewer::viewer_add_material(plan, &args, &mut out));
+        text::entered(rt, viewer::viewer_add_material(plan, &args, &mut out))?;
         k += 1;
     }
+    Ok(())
 }
 
 // Only the back wall, side 5, has a cutter: a niche for the door.
@@ -195,15 +197,16 @@ fn put_side(args: &mut [u8], k: u8) {
     put_door(args, k);
 }
 
-fn add_sides(plan: &mut [u8]) {
+fn add_sides(rt: &impl Print, plan: &mut [u8]) -> io::Result<()> {
     let mut k: u8 = 0;
     while k < 6 {
         let mut args = [0u8; 128];
         let mut out = [0u8; 64];
         put_side(&mut args, k);
-        text::entered(viewer::viewer_add_plane(plan, &args, &mut out));
+        text::entered(rt, viewer::viewer_add_plane(plan, &args, &mut out))?;
         k += 1;
     }
+    Ok(())
 }
 
 // A panel that faces down: its corners go round counter-clockwise as seen from below.
@@ -216,16 +219,17 @@ fn put_corners(args: &mut [u8], x: f32, z: f32) {
     pieces::put_vec(args, 9, at(x - w, LAMP_HEIGHT, z + d));
 }
 
-fn add_lamps(plan: &mut [u8]) {
+fn add_lamps(rt: &impl Print, plan: &mut [u8]) -> io::Result<()> {
     let mut k: u8 = 0;
     while k < 6 {
         let mut args = [0u8; 60];
         let mut out = [0u8; 64];
         put_corners(&mut args, lamp_x(k), lamp_z(k));
         pieces::put_vec(&mut args, 12, at(LAMP_LIGHT, LAMP_LIGHT, LAMP_LIGHT));
-        text::entered(viewer::viewer_add_light(plan, &args, &mut out));
+        text::entered(rt, viewer::viewer_add_light(plan, &args, &mut out))?;
         k += 1;
     }
+    Ok(())
 }
 
 // The number that a piece's entry is sent.
@@ -236,17 +240,28 @@ pub fn add(plan: &mut [u8], nodes: &mut [u8], order: &mut [u8], p: Piece) -> u32
     viewer::viewer_add_object(plan, nodes, order, &args, &mut out)
 }
 
-fn add_pieces(plan: &mut [u8], nodes: &mut [u8], order: &mut [u8]) {
+fn add_pieces(
+    rt: &impl Print,
+    plan: &mut [u8],
+    nodes: &mut [u8],
+    order: &mut [u8],
+) -> io::Result<()> {
     let mut k: u8 = 0;
     while k < 68 {
-        text::entered(add(plan, nodes, order, room_piece(k)));
+        text::entered(rt, add(plan, nodes, order, room_piece(k)))?;
         k += 1;
     }
+    Ok(())
 }
 
-pub fn furnish(plan: &mut [u8], nodes: &mut [u8], order: &mut [u8]) {
-    add_materials(plan);
-    add_sides(plan);
-    add_lamps(plan);
-    add_pieces(plan, nodes, order);
+pub fn furnish(
+    rt: &impl Print,
+    plan: &mut [u8],
+    nodes: &mut [u8],
+    order: &mut [u8],
+) -> io::Result<()> {
+    add_materials(rt, plan)?;
+    add_sides(rt, plan)?;
+    add_lamps(rt, plan)?;
+    add_pieces(rt, plan, nodes, order)
 }

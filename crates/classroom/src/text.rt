@@ -1,40 +1,49 @@
 // Words and numbers on standard output.
+use std::io;
 
-pub fn say(text: &[u8]) {
-    io::write_all(1, text);
+pub fn say(rt: &impl Print, text: &[u8]) -> io::Result<()> {
+    rt.write_all(text)
 }
 
-fn say_first(text: &[u8], n: usize) {
+fn say_first(rt: &impl Print, text: &[u8], n: usize) -> io::Result<()> {
     if n <= text.len() {
-        say(&text[0..n]);
+        return say(rt, &text[0..n]);
     }
+    Ok(())
 }
 
 // A whole number at the right end of `width` places, of which there are at most 20.
-pub fn number(n: u64, width: usize) {
-    let mut digits = [0u8; 20];
-    let k = io::decimal(n, &mut digits);
+pub fn number(rt: &impl Print, n: u64, width: usize) -> io::Result<()> {
+    let k = digits(n);
     if k < width {
-        say_first(b"                    ", width - k);
+        say_first(rt, b"                    ", width - k)?;
     }
-    io::print_decimal(1, n);
+    rt.print(n)
+}
+
+// How many digits n has.
+fn digits(n: u64) -> usize {
+    match n.checked_ilog10() {
+        Some(k) => k as usize + 1,
+        None => 1,
+    }
 }
 
 // A float with three places; `width` places stand before the point.
-pub fn float(x: f32, width: usize) {
+pub fn float(rt: &impl Print, x: f32, width: usize) -> io::Result<()> {
     let n = thousandths(x);
-    number(n / 1000, width);
-    say(b".");
-    number(n / 100 % 10, 1);
-    number(n / 10 % 10, 1);
-    number(n % 10, 1);
+    number(rt, n / 1000, width)?;
+    say(rt, b".")?;
+    number(rt, n / 100 % 10, 1)?;
+    number(rt, n / 10 % 10, 1)?;
+    number(rt, n % 10, 1)
 }
 
 // A length to the millimetre, and words after it.
-pub fn metres(x: f32, after: &[u8]) {
-    float(x, 1);
-    say(b" m");
-    say(after);
+pub fn metres(rt: &impl Print, x: f32, after: &[u8]) -> io::Result<()> {
+    float(rt, x, 1)?;
+    say(rt, b" m")?;
+    say(rt, after)
 }
 
 // n halved so many times, what is left over dropped.
@@ -65,32 +74,48 @@ pub fn thousandths(x: f32) -> u64 {
 }
 
 // What a number that a call sends means.
-fn meaning(number: u32) {
+fn meaning(rt: &impl Print, number: u32) -> io::Result<()> {
     match number {
-        0 => say(b"done"),
-        1 => say(b"refused: a number is not finite or outside its range, or a kind is unknown"),
-        2 => say(b"refused: no room, or a table is short of its full size"),
-        3 => say(b"refused: the plan has no such material"),
-        4 => say(b"refused: it has no extent"),
-        5 => say(b"refused: a plane among objects, or another kind among planes"),
-        6 => say(b"refused: the tree breaks a rule"),
-        7 => say(b"refused: the tree would be 64 deep or deeper, and no tree stands"),
-        8 => say(b"refused: a tree is needed, and none stands for these pieces"),
-        9 => say(b"refused: the point lies in the middle of a lamp"),
-        _ => say(b"refused"),
+        0 => say(rt, b"done"),
+        1 => say(
+            rt,
+            b"refused: a number is not finite or outside its range, or a kind is unknown",
+        ),
+        2 => say(
+            rt,
+            b"refused: no room, or a table is short of its full size",
+        ),
+        3 => say(rt, b"refused: the plan has no such material"),
+        4 => say(rt, b"refused: it has no extent"),
+        5 => say(
+            rt,
+            b"refused: a plane among objects, or another kind among planes",
+        ),
+        6 => say(rt, b"refused: the tree breaks a rule"),
+        7 => say(
+            rt,
+            b"refused: the tree would be 64 deep or deeper, and no tree stands",
+        ),
+        8 => say(
+            rt,
+            b"refused: a tree is needed, and none stands for these pieces",
+        ),
+        9 => say(rt, b"refused: the point lies in the middle of a lamp"),
+        _ => say(rt, b"refused"),
     }
 }
 
 // A line of what was asked and what the call sent.
-pub fn told(what: &[u8], number: u32) {
-    say(what);
-    meaning(number);
-    say(b"\n");
+pub fn told(rt: &impl Print, what: &[u8], number: u32) -> io::Result<()> {
+    say(rt, what)?;
+    meaning(rt, number)?;
+    say(rt, b"\n")
 }
 
 // An entry's number is said where it refuses.
-pub fn entered(number: u32) {
+pub fn entered(rt: &impl Print, number: u32) -> io::Result<()> {
     if number > 0 {
-        told(b"  a piece: ", number);
+        return told(rt, b"  a piece: ", number);
     }
+    Ok(())
 }

@@ -5,14 +5,16 @@
 
 mod powers;
 
-fn say(what: &[u8], n: u32) {
-    io::write_all(1, what);
-    io::print_decimal(1, n as u64);
+use std::io;
+
+fn say(rt: &impl Print, what: &[u8], n: u32) -> io::Result<()> {
+    rt.write_all(what)?;
+    rt.print(n)
 }
 
-fn say_line(what: &[u8], n: u32) {
-    say(what, n);
-    io::write_all(1, b"\n");
+fn say_line(rt: &impl Print, what: &[u8], n: u32) -> io::Result<()> {
+    say(rt, what, n)?;
+    rt.write_all(b"\n")
 }
 
 // The bits of 0, 1, 2, 3, 4.
@@ -27,22 +29,21 @@ fn whole(k: u32) -> u32 {
 }
 
 // A float by its bits: 0 to 5 as a number, any other as the bits.
-fn say_float(what: &[u8], bits: u32) {
+fn say_float(rt: &impl Print, what: &[u8], bits: u32) -> io::Result<()> {
     match bits {
-        0 => say(what, 0),
-        0x3f80_0000 => say(what, 1),
-        0x4000_0000 => say(what, 2),
-        0x4040_0000 => say(what, 3),
-        0x4080_0000 => say(what, 4),
-        0x40a0_0000 => say(what, 5),
-        _ => say_bits(what, bits),
+        0 => say(rt, what, 0),
+        0x3f80_0000 => say(rt, what, 1),
+        0x4000_0000 => say(rt, what, 2),
+        0x4040_0000 => say(rt, what, 3),
+        0x4080_0000 => say(rt, what, 4),
+        0x40a0_0000 => say(rt, what, 5),
+        _ => say_bits(rt, what, bits),
     }
 }
 
-fn say_bits(what: &[u8], bits: u32) {
-    io::write_all(1, what);
-    io::write_all(1, b"bits ");
-    io::print_hex(1, bits as u64, 8);
+fn say_bits(rt: &impl Print, what: &[u8], bits: u32) -> io::Result<()> {
+    rt.write_all(what)?;
+    print!(rt; "bits {bits:08x}")
 }
 
 fn add_material(plan: &mut [u8], out: &mut [u8]) -> u32 {
@@ -130,145 +131,180 @@ fn query(plan: &[u8], nodes: &[u8], order: &[u8], tree: u32, out: &mut [u8]) -> 
     viewer::viewer_query(plan, nodes, order, tree, &args, out)
 }
 
-fn say_distance(plan: &[u8], nodes: &[u8], order: &[u8], tree: u32) {
+fn say_distance(
+    rt: &impl Print,
+    plan: &[u8],
+    nodes: &[u8],
+    order: &[u8],
+    tree: u32,
+) -> io::Result<()> {
     let mut out = [0u8; 64];
-    say(b"  query: ", query(plan, nodes, order, tree, &mut out));
-    say_float(b", distance ", words::word(&out, 0));
-    say(b", nodes popped ", words::word(&out, 2));
-    say_line(b", objects evaluated ", words::word(&out, 3));
+    let number = query(plan, nodes, order, tree, &mut out);
+    say(rt, b"  query: ", number)?;
+    say_float(rt, b", distance ", words::word(&out, 0))?;
+    say(rt, b", nodes popped ", words::word(&out, 2))?;
+    say_line(rt, b", objects evaluated ", words::word(&out, 3))
 }
 
-fn say_order(order: &[u8]) {
-    io::write_all(1, b"  order:");
+fn say_order(rt: &impl Print, order: &[u8]) -> io::Result<()> {
+    rt.write_all(b"  order:")?;
     let mut k: u32 = 0;
     while k < 5 {
-        say(b" ", words::word(order, k as usize));
+        say(rt, b" ", words::word(order, k as usize))?;
         k += 1;
     }
-    io::write_all(1, b"\n");
+    rt.write_all(b"\n")
 }
 
 // Words i, i + 1 and i + 2.
-fn say_corner(what: &[u8], nodes: &[u8], i: u16) {
+fn say_corner(rt: &impl Print, what: &[u8], nodes: &[u8], i: u16) -> io::Result<()> {
     let i = i as usize;
-    say_float(what, words::word(nodes, i));
-    say_float(b", ", words::word(nodes, i + 1));
-    say_float(b", ", words::word(nodes, i + 2));
+    say_float(rt, what, words::word(nodes, i))?;
+    say_float(rt, b", ", words::word(nodes, i + 1))?;
+    say_float(rt, b", ", words::word(nodes, i + 2))
 }
 
 // All nine words of node k.
-fn say_node(nodes: &[u8], k: u8) {
+fn say_node(rt: &impl Print, nodes: &[u8], k: u8) -> io::Result<()> {
     let i = 9 * (k as u16);
-    say(b"  node ", k as u32);
-    say_corner(b": from (", nodes, i);
-    say_corner(b") to (", nodes, i + 3);
+    say(rt, b"  node ", k as u32)?;
+    say_corner(rt, b": from (", nodes, i)?;
+    say_corner(rt, b") to (", nodes, i + 3)?;
     let i = i as usize;
-    say(b"), start ", words::word(nodes, i + 6));
-    say(b", count ", words::word(nodes, i + 7));
-    say_line(b", right ", words::word(nodes, i + 8));
+    say(rt, b"), start ", words::word(nodes, i + 6))?;
+    say(rt, b", count ", words::word(nodes, i + 7))?;
+    say_line(rt, b", right ", words::word(nodes, i + 8))
 }
 
 // The first n nodes, of which at most five are told.
-fn say_nodes(nodes: &[u8], n: u32) {
+fn say_nodes(rt: &impl Print, nodes: &[u8], n: u32) -> io::Result<()> {
     let mut k: u8 = 0;
     while k < 5 {
         if (k as u32) < n {
-            say_node(nodes, k);
+            say_node(rt, nodes, k)?;
         }
         k += 1;
     }
+    Ok(())
 }
 
 // The tree is built; how many nodes it has.
-fn build(plan: &[u8], nodes: &mut [u8], order: &mut [u8]) -> u32 {
+fn build(rt: &impl Print, plan: &[u8], nodes: &mut [u8], order: &mut [u8]) -> io::Result<u32> {
     let mut out = [0u8; 64];
-    say(
-        b"  build: ",
-        viewer::viewer_build(plan, nodes, order, &mut out),
-    );
-    say_line(b", nodes ", words::word(&out, 0));
-    words::word(&out, 0)
+    let number = viewer::viewer_build(plan, nodes, order, &mut out);
+    say(rt, b"  build: ", number)?;
+    let count = words::word(&out, 0);
+    say_line(rt, b", nodes ", count)?;
+    Ok(count)
 }
 
 // Spheres k to n - 1 of a row enter an empty plan.
-fn enter(plan: &mut [u8], nodes: &mut [u8], order: &mut [u8], row: u32, k: u32, n: u32) {
+fn enter(
+    rt: &impl Print,
+    plan: &mut [u8],
+    nodes: &mut [u8],
+    order: &mut [u8],
+    row: u32,
+    k: u32,
+    n: u32,
+) -> io::Result<()> {
     let mut out = [0u8; 64];
     add_material(plan, &mut out);
-    say_line(
-        b"  spheres: ",
-        fill(plan, nodes, order, row, k, n, &mut out),
-    );
+    let entered = fill(plan, nodes, order, row, k, n, &mut out);
+    say_line(rt, b"  spheres: ", entered)
 }
 
 // Of a tree of five spheres, every word is told.
-fn row(name: &[u8], row: u32, k: u32, n: u32) {
+fn row(rt: &impl Print, name: &[u8], row: u32, k: u32, n: u32) -> io::Result<()> {
     let mut plan = [0u8; wire_lengths::PLAN_BYTES];
     let mut nodes = [0u8; wire_lengths::NODES_BYTES];
     let mut order = [0u8; wire_lengths::ORDER_BYTES];
-    io::write_all(1, name);
-    enter(&mut plan, &mut nodes, &mut order, row, k, n);
-    let count = build(&plan, &mut nodes, &mut order);
+    rt.write_all(name)?;
+    enter(rt, &mut plan, &mut nodes, &mut order, row, k, n)?;
+    let count = build(rt, &plan, &mut nodes, &mut order)?;
     if n == 5 {
-        say_order(&order);
-        say_nodes(&nodes, count);
+        say_order(rt, &order)?;
+        say_nodes(rt, &nodes, count)?;
     }
-    say_distance(&plan, &nodes, &order, 1);
+    say_distance(rt, &plan, &nodes, &order, 1)
 }
 
 // A sphere with radius 1 and n cutters is offered.
-fn offer(plan: &mut [u8], nodes: &mut [u8], order: &mut [u8], what: &[u8], n: u32) {
+fn offer(
+    rt: &impl Print,
+    plan: &mut [u8],
+    nodes: &mut [u8],
+    order: &mut [u8],
+    what: &[u8],
+    n: u32,
+) -> io::Result<()> {
     let mut out = [0u8; 64];
-    say(what, add(plan, nodes, order, 0, 0x3f80_0000, n, &mut out));
-    say_line(b", its number ", words::word(&out, 0));
+    let number = add(plan, nodes, order, 0, 0x3f80_0000, n, &mut out);
+    say(rt, what, number)?;
+    say_line(rt, b", its number ", words::word(&out, 0))
 }
 
-fn fill_all(plan: &mut [u8], nodes: &mut [u8], order: &mut [u8]) {
+fn fill_all(
+    rt: &impl Print,
+    plan: &mut [u8],
+    nodes: &mut [u8],
+    order: &mut [u8],
+) -> io::Result<()> {
     let mut out = [0u8; 64];
-    say_line(b"  material: ", add_material(plan, &mut out));
-    say_line(
-        b"  objects with eight cutters that entered: ",
-        fill(plan, nodes, order, 4, 0, 128, &mut out),
-    );
+    let number = add_material(plan, &mut out);
+    say_line(rt, b"  material: ", number)?;
+    let entered = fill(plan, nodes, order, 4, 0, 128, &mut out);
+    say_line(rt, b"  objects with eight cutters that entered: ", entered)
 }
 
 // The tables of nodes and order begin with other bytes, which the first entry clears.
-fn full() {
+fn full(rt: &impl Print) -> io::Result<()> {
     let mut plan = [0u8; wire_lengths::PLAN_BYTES];
     let mut nodes = [7u8; wire_lengths::NODES_BYTES];
     let mut order = [7u8; wire_lengths::ORDER_BYTES];
-    io::write_all(1, b"R4, a plan filled to its limits\n");
-    say_distance(&plan, &nodes, &order, 0);
+    rt.write_all(b"R4, a plan filled to its limits\n")?;
+    say_distance(rt, &plan, &nodes, &order, 0)?;
     offer(
+        rt,
         &mut plan,
         &mut nodes,
         &mut order,
         b"  an object before its material: ",
         0,
-    );
-    fill_all(&mut plan, &mut nodes, &mut order);
-    say_line(b"  nodes after them, word 0: ", words::word(&nodes, 0));
+    )?;
+    fill_all(rt, &mut plan, &mut nodes, &mut order)?;
+    say_line(rt, b"  nodes after them, word 0: ", words::word(&nodes, 0))?;
     offer(
+        rt,
         &mut plan,
         &mut nodes,
         &mut order,
         b"  the 1,025th cutter: ",
         1,
-    );
+    )?;
     offer(
+        rt,
         &mut plan,
         &mut nodes,
         &mut order,
         b"  an object without cutters: ",
         0,
-    );
-    offer(&mut plan, &mut nodes, &mut order, b"  nine cutters: ", 9);
-    say_distance(&plan, &nodes, &order, 0);
+    )?;
+    offer(
+        rt,
+        &mut plan,
+        &mut nodes,
+        &mut order,
+        b"  nine cutters: ",
+        9,
+    )?;
+    say_distance(rt, &plan, &nodes, &order, 0)
 }
 
-fn main() {
-    full();
-    row(b"R1, five spheres at x 0 to 4\n", 1, 0, 5);
-    row(b"R2, five with one centre\n", 2, 0, 5);
-    row(b"R3, powers of 1.25 from -25 to 41\n", 3, 1, 68);
-    row(b"R3, powers of 1.25 from -26 to 41\n", 3, 0, 68);
+fn main(rt: HostRuntime) -> io::Result<()> {
+    full(&rt)?;
+    row(&rt, b"R1, five spheres at x 0 to 4\n", 1, 0, 5)?;
+    row(&rt, b"R2, five with one centre\n", 2, 0, 5)?;
+    row(&rt, b"R3, powers of 1.25 from -25 to 41\n", 3, 1, 68)?;
+    row(&rt, b"R3, powers of 1.25 from -26 to 41\n", 3, 0, 68)
 }

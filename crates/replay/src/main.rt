@@ -3,6 +3,8 @@
 
 #![tactic(auto)]
 
+use std::io;
+use std::io::Read;
 
 // Floats compare by value: both zeros are one.
 fn same_word(a: u32, b: u32) -> bool {
@@ -49,20 +51,30 @@ fn agrees(rec: &[u8]) -> bool {
     false
 }
 
-fn say(seen: u64, same: u64) {
-    io::print_decimal(1, same);
-    io::write_all(1, b" of ");
-    io::print_decimal(1, seen);
-    io::write_all(1, b" stored answers agree\n");
+fn say(rt: &impl Print, seen: u64, same: u64) -> io::Result<()> {
+    println!(rt; "{same} of {seen} stored answers agree")
 }
 
-fn main() {
+// The next record; false where the input ends before the record does.
+fn read_record(input: &mut impl Read, rec: &mut [u8; 128]) -> io::Result<bool> {
+    match input.read_exact(rec) {
+        Ok(()) => Ok(true),
+        Err(e) => {
+            if e.kind() == io::ErrorKind::UnexpectedEof {
+                return Ok(false);
+            }
+            Err(e)
+        }
+    }
+}
+
+fn main(rt: HostRuntime) -> io::Result<()> {
+    let mut input = rt.reader();
     let mut rec = [0u8; 128];
     let mut seen: u64 = 0;
     let mut same: u64 = 0;
     while seen < 1000000 {
-        let got = io::read_full(0, &mut rec);
-        if got < 128 {
+        if !read_record(&mut input, &mut rec)? {
             break;
         }
         seen += 1;
@@ -70,5 +82,5 @@ fn main() {
             same += 1;
         }
     }
-    say(seen, same);
+    say(&rt, seen, same)
 }
