@@ -1,3 +1,4 @@
+-- What is left to do falls in each turn of `limits::fill`.
 use Rattle.std.proofs.Common.{◌-◌}
 use Rattle.limits.proofs.fill.Given as goal
 

@@ -1,3 +1,4 @@
+-- What is left to do falls in each turn of `limits::put_sphere`.
 use Rattle.std.proofs.Common.{◌-◌}
 use Rattle.limits.proofs.put_sphere.Given as goal
 

@@ -1,3 +1,4 @@
+-- What is left to do falls in each turn of `limits::say_nodes`.
 use Rattle.std.proofs.Common.{◌-◌}
 use Rattle.limits.proofs.say_nodes.Given as goal
 

@@ -1,3 +1,4 @@
+-- What is left to do falls in each turn of `replay::main`.
 use Rattle.std.proofs.Common.{◌-◌, ◌≤◌}
 use Rattle.replay.proofs.main.Given as goal
 

@@ -1,3 +1,4 @@
+-- What is left to do falls in each turn of `replay::same_words`.
 use Rattle.std.proofs.Common.{◌-◌}
 use Rattle.replay.proofs.same_words.Given as goal
 

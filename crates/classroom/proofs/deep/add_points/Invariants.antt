@@ -1,3 +1,4 @@
+-- What is left to do falls in each turn of `classroom::deep::add_points`.
 use Rattle.std.proofs.Common.{◌-◌}
 use Rattle.classroom.proofs.deep.add_points.Given as goal
 

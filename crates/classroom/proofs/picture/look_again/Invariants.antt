@@ -1,3 +1,4 @@
+-- What is left to do falls in each turn of `classroom::picture::look_again`.
 use Rattle.std.proofs.Common.{◌-◌}
 use Rattle.classroom.proofs.picture.look_again.Given as goal
 

@@ -1,3 +1,4 @@
+-- What is left to do falls in each turn of `classroom::picture::show`.
 use Rattle.std.proofs.Common.{◌-◌}
 use Rattle.classroom.proofs.picture.show.Given as goal
 

@@ -1,3 +1,4 @@
+-- What is left to do falls in each turn of `classroom::report::desks`.
 use Rattle.std.proofs.Common.{◌-◌}
 use Rattle.classroom.proofs.report.desks.Given as goal
 

@@ -1,3 +1,4 @@
+-- What is left to do falls in each turn of `classroom::room::add_pieces`.
 use Rattle.std.proofs.Common.{◌-◌}
 use Rattle.classroom.proofs.room.add_pieces.Given as goal
 
