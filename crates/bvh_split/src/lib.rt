@@ -83,6 +83,7 @@ fn partition(os: &mut [u32], t: &[f32], g: Grid, split: u32, places: &[u32; 256]
 }
 
 // mid, or half of n where a side would be empty.
+#[tactic(auto, unfolding(crate::specs::Part::evened))]
 fn evened(mid: usize, n: usize) -> usize
     ensures { result ≡ evened mid n }
 {
