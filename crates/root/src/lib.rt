@@ -40,9 +40,7 @@ fn steps(m: u32) -> Rest
     ensures { m < 33554432 → Remains (m * 33554432) result.left result.twice 1 }
 {
     let mut r = Rest { left: m, twice: 0 };
-    let mut k: u32 = 24;
-    while k > 0 {
-        k = k - 1;
+    for k in (0..24u32).rev() {
         r = step(r, 1 << k);
     }
     r
@@ -94,6 +92,7 @@ fn root_bits(b: u32) -> u32
     }
     let mut m = scaled(b);
     let mut j = ((exponent(b) + 1) >> 1) + 62;
+    // Not counted: as many turns as a subnormal's digits have zeros before them.
     while m < 0x80_0000 {
         m = m << 2;
         j = j - 1;

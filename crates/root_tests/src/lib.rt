@@ -11,6 +11,7 @@ ghost use Rattle.float_order.specs.Inside.Order.{zero_f};
 ghost use Rattle.root_tests.specs.Inside.Tests.{usual, far_off, left_first, limit_of};
 
 // Whether x is above zero and finite.
+#[tactic(auto, unfolding(crate::specs::Inside::Tests::usual))]
 fn usual(x: f32) -> bool
     ensures { result ≡ usual x }
 {

@@ -1,6 +1,6 @@
 -- "Arc cosine, for x from -1 to 1: for x >= 0 it is root(1-x) times the polynomial of degree seven of Abramowitz and
 -- Stegun 4.4.46, by Horner from the top, coefficients each the nearest f32; for x < 0, pi's f32 less the value at -x."
-use Rattle.std.specs.Prelude.{ℕ, cond, Float}
+use Rattle.std.specs.Prelude.{cond, Float}
 use Rattle.std.specs.Float.{binary32}
 use Rattle.std.specs.Float.Ieee.{of_bits, neg, le}
 use Rattle.root.specs.Root.{root_of}

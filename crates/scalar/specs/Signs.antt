@@ -1,5 +1,5 @@
 -- Magnitude and sign, as Rust's `abs` and `signum`: a NaN stays one, minus zero has the sign of what is below zero.
-use Rattle.std.specs.Prelude.{ℕ, Bool, true, false, pos, Float}
+use Rattle.std.specs.Prelude.{Bool, false, pos, Float}
 use Rattle.std.specs.Float.{nan, inf, fin}
 
 unfoldable pub abs_of : Float → Float

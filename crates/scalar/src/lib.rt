@@ -1,4 +1,4 @@
-// Numbers as document 01 has them: greater, lesser, clamped, magnitude, sign, bits, ranges, and the arc cosine.
+// Numbers: greater, lesser, clamped, magnitude, sign, bits, ranges, and the arc cosine.
 
 #![tactic(auto)]
 
@@ -10,6 +10,7 @@ ghost use Rattle.scalar.specs.Signs.{abs_of, signum_of};
 ghost use Rattle.scalar.specs.Ranges.{between, magnitude};
 ghost use Rattle.scalar.specs.Acos.{poly, side, acos_of};
 
+// Not std's: it leaves open which of two zeros it gives.
 pub fn max(a: f32, b: f32) -> f32
     ensures { result ≡ fmax a b }
 {
@@ -22,6 +23,7 @@ pub fn max(a: f32, b: f32) -> f32
     a
 }
 
+#[tactic(auto, unfolding(crate::specs::Extremes::fmin))]
 pub fn min(a: f32, b: f32) -> f32
     ensures { result ≡ fmin a b }
 {
@@ -46,7 +48,7 @@ fn at_most(x: f32, hi: f32) -> f32
     if x > hi { hi } else { x }
 }
 
-// Keeps a NaN, as Rust's does.
+// Keeps a NaN, as Rust's does. Not std's, which asks that lo is at most hi.
 pub fn clamp(x: f32, lo: f32, hi: f32) -> f32
     ensures { result ≡ clamp_of x lo hi }
 {
@@ -56,26 +58,14 @@ pub fn clamp(x: f32, lo: f32, hi: f32) -> f32
 pub fn abs(x: f32) -> f32
     ensures { result ≡ abs_of x }
 {
-    if x < 0.0 {
-        return -x;
-    }
-    if x == 0.0 {
-        return 0.0;
-    }
-    x
+    x.abs()
 }
 
 // Minus zero's is -1, and a NaN's the NaN.
 pub fn signum(x: f32) -> f32
     ensures { result ≡ signum_of x }
 {
-    if x == x {
-        if f32::to_bits(x) < 0x8000_0000 {
-            return 1.0;
-        }
-        return -1.0;
-    }
-    x
+    x.signum()
 }
 
 // The float of a word, every NaN's too. With the sign off a NaN's is one compare, where a table is converted; the sign
@@ -99,6 +89,7 @@ pub fn bits(x: f32) -> u32
     0x7fc0_0000
 }
 
+#[tactic(auto, unfolding(crate::specs::Ranges::between))]
 pub fn between(lo: f32, x: f32, hi: f32) -> bool
     ensures { result ≡ between lo x hi }
 {
@@ -109,6 +100,7 @@ pub fn between(lo: f32, x: f32, hi: f32) -> bool
 }
 
 // Finite and at most `most` in magnitude, for a `most` that is finite.
+#[tactic(auto, unfolding(crate::specs::Ranges::magnitude))]
 pub fn magnitude(x: f32, most: f32) -> bool
     ensures { result ≡ magnitude x most }
 {
@@ -128,6 +120,7 @@ fn poly(x: f32) -> f32
     p * x + 1.5707963050
 }
 
+#[tactic(auto, unfolding(crate::specs::Acos::side))]
 fn side(x: f32) -> f32
     ensures { result ≡ side x }
 {

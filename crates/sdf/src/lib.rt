@@ -28,19 +28,14 @@ pub struct Aabb {
     pub hi: Vec3,
 }
 
-#[derive(Clone, Copy)]
-pub enum Bounds {
-    Within(Aabb),
-    // A plane's.
-    Unbounded,
-}
-
+#[tactic(auto, unfolding(crate::specs::Shapes::sphere))]
 fn sphere(c: Vec3, r: f32, p: Vec3) -> f32
     ensures { result ≡ sphere c r p }
 {
     p.sub(c).length() - r
 }
 
+#[tactic(auto, unfolding(crate::specs::Shapes::round_box))]
 fn round_box(c: Vec3, b: Vec3, r: f32, p: Vec3) -> f32
     ensures { result ≡ round_box c b r p }
 {
@@ -49,6 +44,7 @@ fn round_box(c: Vec3, b: Vec3, r: f32, p: Vec3) -> f32
     outside + scalar::min(scalar::max(q.x, scalar::max(q.y, q.z)), 0.0) - r
 }
 
+#[tactic(auto, unfolding(crate::specs::Shapes::plane))]
 fn plane(n: Vec3, h: f32, p: Vec3) -> f32
     ensures { result ≡ plane n h p }
 {
@@ -64,6 +60,7 @@ fn capsule(a: Vec3, b: Vec3, r: f32, p: Vec3) -> f32
     pa.sub(ba.scale(h)).length() - r
 }
 
+#[tactic(auto, unfolding(crate::specs::Shapes::torus))]
 fn torus(c: Vec3, major: f32, minor: f32, p: Vec3) -> f32
     ensures { result ≡ torus c major minor p }
 {
@@ -73,7 +70,7 @@ fn torus(c: Vec3, major: f32, minor: f32, p: Vec3) -> f32
 }
 
 // The square of x where x is above zero.
-fn beyond(x: f32, square: f32) -> f32
+pub fn beyond(x: f32, square: f32) -> f32
     ensures { result ≡ beyond x square }
 {
     if x > 0.0 { square } else { 0.0 }
@@ -91,6 +88,7 @@ fn cylinder_square(x: f32, y: f32, baba: f32) -> f32
     beyond(x, x2) + beyond(y, y2)
 }
 
+#[tactic(auto, unfolding(crate::specs::Shapes::cylinder_body))]
 fn cylinder_body(pa: Vec3, ba: Vec3, baba: f32, r: f32) -> f32
     ensures { result ≡ cylinder_body pa ba baba r }
 {
@@ -102,6 +100,7 @@ fn cylinder_body(pa: Vec3, ba: Vec3, baba: f32, r: f32) -> f32
 }
 
 // Ends that all but coincide make a cylinder or a cone a sphere.
+#[tactic(auto, unfolding(crate::specs::Shapes::cylinder))]
 fn cylinder(a: Vec3, b: Vec3, r: f32, p: Vec3) -> f32
     ensures { result ≡ cylinder a b r p }
 {
@@ -113,21 +112,21 @@ fn cylinder(a: Vec3, b: Vec3, r: f32, p: Vec3) -> f32
     cylinder_body(p.sub(a), ba, baba, r)
 }
 
-fn cone_end(paba: f32, ra: f32, rb: f32) -> f32
+pub fn cone_end(paba: f32, ra: f32, rb: f32) -> f32
     ensures { result ≡ cone_end paba ra rb }
 {
     if paba < 0.5 { ra } else { rb }
 }
 
 // Where on the slanted side the nearest point is, 0 to 1.
-fn cone_foot(x: f32, paba: f32, baba: f32, ra: f32, rba: f32) -> f32
+pub fn cone_foot(x: f32, paba: f32, baba: f32, ra: f32, rba: f32) -> f32
     ensures { result ≡ cone_foot x paba baba ra rba }
 {
     let k = rba * rba + baba;
     scalar::clamp((rba * (x - ra) + paba * baba) / k, 0.0, 1.0)
 }
 
-fn cone_sign(cbx: f32, cay: f32) -> f32
+pub fn cone_sign(cbx: f32, cay: f32) -> f32
     ensures { result ≡ cone_sign cbx cay }
 {
     if cbx < 0.0 {
@@ -139,6 +138,7 @@ fn cone_sign(cbx: f32, cay: f32) -> f32
 }
 
 // From the radial distance x and the place along the axis, 0 at a and 1 at b.
+#[tactic(auto, unfolding(crate::specs::Shapes::cone_at))]
 fn cone_at(x: f32, paba: f32, baba: f32, ra: f32, rb: f32) -> f32
     ensures { result ≡ cone_at x paba baba ra rb }
 {
@@ -173,6 +173,7 @@ fn cone(a: Vec3, b: Vec3, ra: f32, rb: f32, p: Vec3) -> f32
 }
 
 impl Shape {
+    #[tactic(auto, unfolding(crate::specs::Shapes::dist_of))]
     pub fn dist(self, p: Vec3) -> f32
         ensures { result ≡ dist_of self p }
     {
@@ -187,16 +188,16 @@ impl Shape {
         }
     }
 
-    // A round box's ignores its rounding.
-    pub fn bounds(self) -> Bounds
+    // A round box's ignores its rounding; a plane has none.
+    pub fn bounds(self) -> Option<Aabb>
         ensures { result ≡ bounds_of self }
     {
         match self {
-            Shape::Sphere { c, r } => Bounds::Within(spread(c, Vec3::splat(r))),
-            Shape::RoundBox { c, b, r } => Bounds::Within(spread(c, b)),
-            Shape::Plane { n, h } => Bounds::Unbounded,
-            Shape::Capsule { a, b, r } => Bounds::Within(around(a, b, r)),
-            Shape::Torus { c, major, minor } => Bounds::Within(spread(
+            Shape::Sphere { c, r } => Some(spread(c, Vec3::splat(r))),
+            Shape::RoundBox { c, b, r } => Some(spread(c, b)),
+            Shape::Plane { n, h } => None,
+            Shape::Capsule { a, b, r } => Some(around(a, b, r)),
+            Shape::Torus { c, major, minor } => Some(spread(
                 c,
                 Vec3 {
                     x: major + minor,
@@ -204,18 +205,19 @@ impl Shape {
                     z: major + minor,
                 },
             )),
-            Shape::Cylinder { a, b, r } => Bounds::Within(around(a, b, r)),
-            Shape::Cone { a, b, ra, rb } => Bounds::Within(around(a, b, scalar::max(ra, rb))),
+            Shape::Cylinder { a, b, r } => Some(around(a, b, r)),
+            Shape::Cone { a, b, ra, rb } => Some(around(a, b, scalar::max(ra, rb))),
         }
     }
 
     // An object's box: its bounds widened by its blend. No object is a plane.
+    #[tactic(auto, unfolding(crate::specs::Boxes::box_of))]
     pub fn object_box(self, blend: f32) -> Aabb
         ensures { result ≡ box_of self blend }
     {
         match self.bounds() {
-            Bounds::Within(b) => b.widened(blend),
-            Bounds::Unbounded => Aabb {
+            Some(b) => b.widened(blend),
+            None => Aabb {
                 lo: Vec3::splat(0.0),
                 hi: Vec3::splat(0.0),
             },
@@ -223,6 +225,7 @@ impl Shape {
     }
 }
 
+#[tactic(auto, unfolding(crate::specs::Boxes::spread))]
 fn spread(c: Vec3, e: Vec3) -> Aabb
     ensures { result ≡ spread c e }
 {
@@ -233,6 +236,7 @@ fn spread(c: Vec3, e: Vec3) -> Aabb
 }
 
 // The box of two points, each with a radius.
+#[tactic(auto, unfolding(crate::specs::Boxes::around))]
 fn around(a: Vec3, b: Vec3, r: f32) -> Aabb
     ensures { result ≡ around a b r }
 {
@@ -243,6 +247,7 @@ fn around(a: Vec3, b: Vec3, r: f32) -> Aabb
 }
 
 impl Aabb {
+    #[tactic(auto, unfolding(crate::specs::Boxes::widened))]
     fn widened(self, e: f32) -> Aabb
         ensures { result ≡ widened self e }
     {
@@ -252,6 +257,7 @@ impl Aabb {
         }
     }
 
+    #[tactic(auto, unfolding(crate::specs::Boxes::centre_of))]
     pub fn centre(self) -> Vec3
         ensures { result ≡ centre_of self }
     {

@@ -1,5 +1,6 @@
 // Cylinders and cones as far as they matter to a search: the distance, or the bound t where the distance is no less,
 // told with as few roots as it can be. A guess is tested, and nothing rests on which it is but time.
+// Functions take floats one by one, as a struct would go through memory.
 
 #![tactic(auto)]
 
@@ -38,13 +39,6 @@ fn far(t: f32, w: f32, s: f32) -> bool
     false
 }
 
-// The square of x where x is above zero.
-fn beyond(x: f32, square: f32) -> f32
-    ensures { result ≡ beyond x square }
-{
-    if x > 0.0 { square } else { 0.0 }
-}
-
 // How far root(q) is surely above rb, 0 where that is not known.
 fn over(q: f32, rb: f32, v: f32) -> f32
     ensures { T (le (result ⊗ result) (outside (root_of q ⊖ rb))) }
@@ -67,7 +61,7 @@ fn square(x: f32, y: f32, y2: f32, by: f32) -> f32
     if scalar::max(x, y) < 0.0 {
         return -scalar::min(x2, y2);
     }
-    beyond(x, x2) + by
+    sdf::beyond(x, x2) + by
 }
 
 // By the square of a lower bound first, then by the square itself, then by its root.
@@ -75,7 +69,7 @@ fn cylinder_at(q: f32, y: f32, baba: f32, rb: f32, t: f32) -> f32
     ensures { Near t (cylinder_at q y baba rb) result }
 {
     let y2 = y * y * baba;
-    let by = beyond(y, y2);
+    let by = sdf::beyond(y, y2);
     let w = above_zero(t * baba * 1.000001);
     let z = over(q, rb, w);
     if root_tests::reaches(z * z + by, w) {
@@ -95,6 +89,7 @@ fn cylinder_at(q: f32, y: f32, baba: f32, rb: f32, t: f32) -> f32
     scalar::signum(d) * root_tests::quick_root(sdf_near::size(d)) / baba
 }
 
+#[tactic(auto, unfolding(sdf::specs::Shapes::cylinder_body, vectors::specs::Vec::vlength))]
 fn cylinder_body(pa: Vec3, ba: Vec3, baba: f32, r: f32, t: f32) -> f32
     ensures { Near t (cylinder_body pa ba baba r) result }
 {
@@ -111,6 +106,7 @@ fn cylinder_body(pa: Vec3, ba: Vec3, baba: f32, r: f32, t: f32) -> f32
 }
 
 // Ends that all but coincide make a cylinder or a cone a sphere.
+#[tactic(auto, unfolding(sdf::specs::Shapes::cylinder))]
 pub fn cylinder(a: Vec3, b: Vec3, r: f32, p: Vec3, t: f32) -> f32
     ensures { Near t (cylinder a b r p) result }
 {
@@ -191,31 +187,6 @@ fn sure(t: f32, w: f32, baba: f32, cay: f32) -> bool
     false
 }
 
-fn cone_end(paba: f32, ra: f32, rb: f32) -> f32
-    ensures { result ≡ cone_end paba ra rb }
-{
-    if paba < 0.5 { ra } else { rb }
-}
-
-// Where on the slanted side the nearest point is, 0 to 1.
-fn cone_foot(x: f32, paba: f32, baba: f32, ra: f32, rba: f32) -> f32
-    ensures { result ≡ cone_foot x paba baba ra rba }
-{
-    let k = rba * rba + baba;
-    scalar::clamp((rba * (x - ra) + paba * baba) / k, 0.0, 1.0)
-}
-
-fn cone_sign(cbx: f32, cay: f32) -> f32
-    ensures { result ≡ cone_sign cbx cay }
-{
-    if cbx < 0.0 {
-        if cay < 0.0 {
-            return -1.0;
-        }
-    }
-    1.0
-}
-
 // From the radial distance x: by the square, then by its root.
 fn cone_from(
     x: f32,
@@ -230,12 +201,12 @@ fn cone_from(
 ) -> f32
     ensures { T (lt f0 w) → Near t (cone_by x paba cay baba ra rb rba) result }
 {
-    let cax = scalar::max(0.0, x - cone_end(paba, ra, rb));
-    let f = cone_foot(x, paba, baba, ra, rba);
+    let cax = scalar::max(0.0, x - sdf::cone_end(paba, ra, rb));
+    let f = sdf::cone_foot(x, paba, baba, ra, rba);
     let cbx = x - ra - f * rba;
     let cby = paba - f;
     let d = scalar::min(cax * cax + cay * cay * baba, cbx * cbx + cby * cby * baba);
-    let s = cone_sign(cbx, cay);
+    let s = sdf::cone_sign(cbx, cay);
     if root_tests::reaches(d, w) {
         if s > 0.0 {
             if t <= w {
@@ -274,6 +245,7 @@ fn cone_at(g: f32, paba: f32, baba: f32, ra: f32, rb: f32, t: f32) -> f32
     )
 }
 
+#[tactic(auto, unfolding(sdf::specs::Shapes::cone_body, sdf::specs::Shapes::cone_at))]
 fn cone_body(pa: Vec3, ba: Vec3, baba: f32, ra: f32, rb: f32, t: f32) -> f32
     ensures { Near t (cone_body pa ba baba ra rb) result }
 {
@@ -288,6 +260,7 @@ fn cone_body(pa: Vec3, ba: Vec3, baba: f32, ra: f32, rb: f32, t: f32) -> f32
     )
 }
 
+#[tactic(auto, unfolding(sdf::specs::Shapes::cone))]
 pub fn cone(a: Vec3, b: Vec3, ra: f32, rb: f32, p: Vec3, t: f32) -> f32
     ensures { Near t (cone a b ra rb p) result }
 {

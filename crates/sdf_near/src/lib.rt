@@ -13,7 +13,8 @@ ghost use Rattle.sdf_near.specs.Inside.Near.{Near, OffRing};
 
 use vectors::Vec3;
 
-// `scalar::abs`, in the form that compilers know for one instruction.
+// `scalar::abs`, in the form that compilers know for one instruction. It stands here, above `float_order`, since its
+// proof needs that a difference from zero is exact.
 pub fn size(x: f32) -> f32
     ensures { result ≡ abs_of x }
 {
@@ -42,6 +43,7 @@ pub fn less(q: f32, r: f32, t: f32) -> f32
     root_tests::quick_root(q) - r
 }
 
+#[tactic(auto, unfolding(sdf::specs::Shapes::sphere, vectors::specs::Vec::vlength))]
 pub fn sphere(c: Vec3, r: f32, p: Vec3, t: f32) -> f32
     ensures { Near t (sphere c r p) result }
 {
@@ -49,6 +51,7 @@ pub fn sphere(c: Vec3, r: f32, p: Vec3, t: f32) -> f32
     less(v.dot(v), r, t)
 }
 
+#[tactic(auto, unfolding(sdf::specs::Shapes::capsule, vectors::specs::Vec::vlength))]
 pub fn capsule(a: Vec3, b: Vec3, r: f32, p: Vec3, t: f32) -> f32
     ensures { Near t (capsule a b r p) result }
 {
@@ -73,6 +76,7 @@ fn box_less(q: f32, n: f32, r: f32, t: f32) -> f32
     root_tests::quick_root(q) + m - r
 }
 
+#[tactic(auto, unfolding(sdf::specs::Shapes::round_box, vectors::specs::Vec::vlength, vectors::specs::Vec::vabs))]
 pub fn round_box(c: Vec3, b: Vec3, r: f32, p: Vec3, t: f32) -> f32
     ensures { Near t (round_box c b r p) result }
 {
@@ -138,6 +142,7 @@ fn torus_at(g: f32, y: f32, major: f32, minor: f32, t: f32) -> f32
     less(xz * xz + y * y, minor, t)
 }
 
+#[tactic(auto, unfolding(sdf::specs::Shapes::torus))]
 pub fn torus(c: Vec3, major: f32, minor: f32, p: Vec3, t: f32) -> f32
     ensures { Near t (torus c major minor p) result }
 {

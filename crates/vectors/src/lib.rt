@@ -15,12 +15,14 @@ pub struct Vec3 {
 }
 
 impl Vec3 {
+    #[tactic(auto, unfolding(crate::specs::Vec::vsplat))]
     pub fn splat(a: f32) -> Vec3
         ensures { result ≡ vsplat a }
     {
         Vec3 { x: a, y: a, z: a }
     }
 
+    #[tactic(auto, unfolding(crate::specs::Vec::vadd))]
     pub fn add(self, b: Vec3) -> Vec3
         ensures { result ≡ vadd self b }
     {
@@ -31,6 +33,7 @@ impl Vec3 {
         }
     }
 
+    #[tactic(auto, unfolding(crate::specs::Vec::vsub))]
     pub fn sub(self, b: Vec3) -> Vec3
         ensures { result ≡ vsub self b }
     {
@@ -42,6 +45,7 @@ impl Vec3 {
     }
 
     // By component.
+    #[tactic(auto, unfolding(crate::specs::Vec::vmul))]
     pub fn mul(self, b: Vec3) -> Vec3
         ensures { result ≡ vmul self b }
     {
@@ -52,6 +56,7 @@ impl Vec3 {
         }
     }
 
+    #[tactic(auto, unfolding(crate::specs::Vec::vscale))]
     pub fn scale(self, s: f32) -> Vec3
         ensures { result ≡ vscale self s }
     {
@@ -63,6 +68,7 @@ impl Vec3 {
     }
 
     // Each component divided.
+    #[tactic(auto, unfolding(crate::specs::Vec::vover))]
     pub fn over(self, s: f32) -> Vec3
         ensures { result ≡ vover self s }
     {
@@ -73,6 +79,7 @@ impl Vec3 {
         }
     }
 
+    #[tactic(auto, unfolding(crate::specs::Vec::vneg))]
     pub fn neg(self) -> Vec3
         ensures { result ≡ vneg self }
     {
@@ -83,12 +90,14 @@ impl Vec3 {
         }
     }
 
+    #[tactic(auto, unfolding(crate::specs::Vec::vdot))]
     pub fn dot(self, b: Vec3) -> f32
         ensures { result ≡ vdot self b }
     {
         self.x * b.x + self.y * b.y + self.z * b.z
     }
 
+    #[tactic(auto, unfolding(crate::specs::Vec::vcross))]
     pub fn cross(self, b: Vec3) -> Vec3
         ensures { result ≡ vcross self b }
     {
@@ -99,24 +108,28 @@ impl Vec3 {
         }
     }
 
+    #[tactic(auto, unfolding(crate::specs::Vec::vlength))]
     pub fn length(self) -> f32
         ensures { result ≡ vlength self }
     {
         root_tests::quick_root(self.dot(self))
     }
 
+    #[tactic(auto, unfolding(crate::specs::Vec::vnormalize))]
     pub fn normalize(self) -> Vec3
         ensures { result ≡ vnormalize self }
     {
         self.scale(1.0 / self.length())
     }
 
+    #[tactic(auto, unfolding(crate::specs::Vec::vlerp))]
     pub fn lerp(self, b: Vec3, s: f32) -> Vec3
         ensures { result ≡ vlerp self b s }
     {
         self.scale(1.0 - s).add(b.scale(s))
     }
 
+    #[tactic(auto, unfolding(crate::specs::Vec::vmin))]
     pub fn min(self, b: Vec3) -> Vec3
         ensures { result ≡ vmin self b }
     {
@@ -127,6 +140,7 @@ impl Vec3 {
         }
     }
 
+    #[tactic(auto, unfolding(crate::specs::Vec::vmax))]
     pub fn max(self, b: Vec3) -> Vec3
         ensures { result ≡ vmax self b }
     {
@@ -137,6 +151,7 @@ impl Vec3 {
         }
     }
 
+    #[tactic(auto, unfolding(crate::specs::Vec::vabs))]
     pub fn abs(self) -> Vec3
         ensures { result ≡ vabs self }
     {
@@ -147,7 +162,8 @@ impl Vec3 {
         }
     }
 
-    // The source's `v[axis]`: 0 is x, 1 is y, any other z.
+    // The source's `v[axis]`: 0 is x, 1 is y, any other z. A number, since callers may ask for any word's.
+    #[tactic(auto, unfolding(crate::specs::Vec::vaxis))]
     pub fn axis(self, k: u32) -> f32
         ensures { result ≡ vaxis self k }
     {

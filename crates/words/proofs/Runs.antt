@@ -1,16 +1,17 @@
 -- What a loop that fills a list or writes words needs at its start, at a turn and at its end, and what holds of each
 -- member of a list. By induction on the list. Assumes nothing.
-use Prim.Native.Nat.{ℕ, zero, suc, ◌+◌, ◌<◌, ◌≤◌, ◌/◌}
+use Prim.Native.Nat.{ℕ, zero, suc, ◌+◌, ◌-◌, ◌<◌, ◌≤◌, ◌/◌, min}
 use mathlib.Core.Path.{◌≡◌, refl, sym, ◌∙◌, ap}
-use mathlib.Core.List.{List, [], ◌∷◌, ◌++◌}
+use mathlib.Core.List.{List, [], ◌∷◌, ◌++◌, append-nil}
 use native.Mathlib.Numerals.{add-one}
-use native.Mathlib.Nat.{add-zero}
+use native.Mathlib.Nat.{add-zero, zero-add}
 use native.Mathlib.Omega.{arith}
-use lib.ListN.{length, get_or, set, take, drop}
+use lib.ListN.{length, get_or, set, take, drop, replicate, length-drop, drop_of_length-le}
+use Rattle.std.proofs.Common.{length-take-le}
 use lib.Seq.{drop-cons, take-suc-set, take_all}
 use borrow.Author.Tests.{le-ltb}
 use Rattle.words.specs.Lists.{list_from, All}
-use Rattle.words.specs.Words.{word_at, put_word, put_words}
+use Rattle.words.specs.Words.{word_at, words_of, put_word, put_words}
 
 module _ {A : Type 0} (f : ℕ → A) where
   pub from_snoc : (a n : ℕ) → list_from f a (suc n) ≡ list_from f a n ++ (f (a + n) ∷ [])
@@ -19,6 +20,22 @@ module _ {A : Type 0} (f : ℕ → A) where
   from_snoc a (suc n) =
       let e : a + suc n ≡ suc a + n = omega arith in
       rw e (ap (λ (l : List A). f a ∷ l) (from_snoc (suc a) n))
+
+  -- in two parts, and one that is the same all over
+  pub from_parts : (a m n : ℕ) → list_from f a (m + n) ≡ list_from f a m ++ list_from f (a + m) n
+  unfolding list_from
+  from_parts a zero n = rw (add-zero, zero-add)
+  from_parts a (suc m) n =
+      let e : a + suc m ≡ suc a + m = omega arith in
+      let s : suc m + n ≡ suc (m + n) = omega arith in
+      rw (e, s) (ap (λ (l : List A). f a ∷ l) (from_parts (suc a) m n))
+
+  pub from_const : (v : A) (a n : ℕ) → ((k : ℕ) → a ≤ k → k < a + n → f k ≡ v) → list_from f a n ≡ replicate n v
+  unfolding list_from
+  from_const v a zero h = refl
+  from_const v a (suc n) h =
+      rw (h a (omega arith) (omega arith))
+      (ap (λ (l : List A). v ∷ l) (from_const v (suc a) n (λ k p q. h k (omega arith) (omega arith))))
 
   pub length_from : (a n : ℕ) → length (list_from f a n) ≡ n
   unfolding list_from
@@ -104,3 +121,26 @@ puts_step b ws i h = rw (drop-cons ws i 0 h, add-one)
 pub word_past : (b : List ℕ) (i : ℕ) → length b / 4 ≤ i → 0 ≡ word_at b i
 unfolding word_at
 word_past b i h = rw (le-ltb i (length b / 4) h)
+
+-- the words that the bytes have, and zeros in the place of the others
+pub with_zeros
+    : (b w zeros : List ℕ) (m : ℕ)
+    → m ≡ min (length w) (length b / 4)
+    → take m w ≡ words_of b m
+    → zeros ≡ replicate (length (take (length w - m) (drop m w))) 0
+    → take m w ++ (zeros ++ drop (length w - m) (drop m w)) ≡ words_of b (length w)
+with_zeros b w zeros m e t z =
+    let n : m + (length w - m) ≡ length w = omega arith in
+    let d : length (drop m w) ≡ length w - m = length-drop m w in
+    let k : length (take (length w - m) (drop m w)) ≡ length w - m = length-take-le (length w - m) (drop m w) (omega arith) in
+    let over : (i : ℕ) → 0 + m ≤ i → i < 0 + m + (length w - m) → word_at b i ≡ 0
+    = λ i h q. sym (word_past b i (omega arith)) in
+    rw (
+      drop_of_length-le (drop m w) {i = length w - m} (omega arith),
+      append-nil,
+      z,
+      k,
+      t,
+      sym (from_const (word_at b) 0 (0 + m) (length w - m) over),
+    )
+    (sym (from_parts (word_at b) 0 m (length w - m)) ∙ ap (words_of b) n)

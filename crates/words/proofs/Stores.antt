@@ -1,14 +1,15 @@
 -- A run of stores: a loop that makes it, and what is read of it, in the run and outside. By induction on the run.
 -- Assumes nothing.
-use Prim.Native.Nat.{ℕ, zero, suc, ◌+◌, ◌<◌, ◌≤◌}
+use Rattle.std.proofs.Common.{drop-drop, append_assoc, sym}
+use Prim.Native.Nat.{ℕ, zero, suc, ◌+◌, ◌-◌, ◌<◌, ◌≤◌}
 use mathlib.Core.Path.{◌≡◌, refl, ◌∙◌}
 use mathlib.Core.Logic.{◌⊎◌, ⊎_elim, inl, inr}
-use mathlib.Core.List.{List, [], ◌∷◌}
+use mathlib.Core.List.{List, [], ◌∷◌, ◌++◌}
 use native.Mathlib.Nat.{add-zero}
 use native.Mathlib.Numerals.{add-one}
 use native.Mathlib.Omega.{arith}
-use lib.ListN.{length, get_or, set, drop, length-set, drop_of_length-le}
-use lib.Seq.{sets, drop-cons, get_or-set_same, get_or-set_other}
+use lib.ListN.{length, get_or, set, take, drop, length-set, drop_of_length-le}
+use lib.Seq.{sets, sets-eq, drop-cons, get_or-set_same, get_or-set_other}
 
 -- a loop that writes r from i on: a turn, and the end
 pub sets_step
@@ -42,3 +43,24 @@ get_d_sets_in l i (a ∷ vs) zero h f =
 get_d_sets_in l i (a ∷ vs) (suc k) h f =
     let e : i + suc k ≡ suc i + k = omega arith in
     rw e (get_d_sets_in (set l i a) (suc i) vs k (omega arith) (rw length-set (omega arith)))
+
+-- a run put in the place of what stands from p to e
+pub part_put
+    : (b vs : List ℕ) (p e : ℕ)
+    → e ≡ p + length vs
+    → e ≤ length b
+    → take p b ++ (vs ++ drop (e - p) (drop p b)) ≡ sets b p vs
+part_put b vs p e h f =
+    let q : p + (e - p) ≡ p + length vs = omega arith in
+    rw (drop-drop (e - p) p b, q) (sym (append_assoc (take p b) vs (drop (p + length vs) b)) ∙ sym (sets-eq vs b p (omega arith)))
+
+-- four bytes put in the place of those from p on
+pub four_put
+    : (b : List ℕ) (p x y z u : ℕ)
+    → p + 4 ≤ length b
+    → take p b ++ ((x ∷ y ∷ z ∷ u ∷ []) ++ drop (p + 4 - p) (drop p b)) ≡ set (set (set (set b p x) (p + 1) y) (p + 2) z) (p + 3) u
+four_put b p x y z u h =
+    let e1 : p + 1 ≡ suc p = omega arith in
+    let e2 : p + 2 ≡ suc (suc p) = omega arith in
+    let e3 : p + 3 ≡ suc (suc (suc p)) = omega arith in
+    part_put b (x ∷ y ∷ z ∷ u ∷ []) p (p + 4) refl h ∙ rw (e1, e2, e3)

@@ -1,14 +1,15 @@
--- `scalar::abs` meets its contract, by the cases of `Zeros`. Assumes nothing.
-use mathlib.Core.Path.{sym, subst}
-use lib.Dec.{T}
-use Rattle.scalar.proofs.Zeros.{abs_below, abs_zero, abs_above}
+-- `scalar::abs` meets its contract: std's is the definition's, by the cases of a value. Assumes nothing.
+use Rattle.std.proofs.Common.{◌≡◌, false, ◌∙◌, refl}
+use Rattle.std.specs.Float.{float_with_sign}
+use lib.Ieee.{Float, nan, inf, fin}
+use Rattle.scalar.specs.Signs.{abs_of}
 use Rattle.scalar.proofs.abs.Goals as goal
 
-pub returns-then-x : goal.returns-then-x
-returns-then-x c = abs_below _ c.if-x.true
-
-pub returns-then-x-2 : goal.returns-then-x-2
-returns-then-x-2 c = abs_zero _ (subst T (sym c.well_formed.0.1) tt) c.if-x-2.true
+with_sign : (x : Float) → float_with_sign false x ≡ abs_of x
+unfolding abs_of float_with_sign
+with_sign nan = refl
+with_sign (inf s) = refl
+with_sign (fin s m e) = refl
 
 pub returns : goal.returns
-returns c = abs_above _ c.if-x.false c.if-x-2.false
+returns c = c.abs.ensures.value ∙ with_sign c.args.x

@@ -1,8 +1,0 @@
--- `Vec3::add` meets its contract. Assumes nothing.
-use mathlib.Core.Path.{refl}
-use Rattle.vectors.specs.Vec.{vadd}
-use Rattle.vectors.proofs.Vec3.add.Goals as goal
-
-pub returns : goal.returns
-unfolding vadd
-returns c = refl

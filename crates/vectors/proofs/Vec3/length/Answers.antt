@@ -1,7 +1,0 @@
--- `Vec3::length` meets its contract. Assumes nothing.
-use Rattle.vectors.specs.Vec.{vlength}
-use Rattle.vectors.proofs.Vec3.length.Goals as goal
-
-pub returns : goal.returns
-unfolding vlength
-returns c = rw (c.quick_root.ensures, c.dot.ensures)

@@ -1,8 +1,0 @@
--- `Vec3::scale` meets its contract. Assumes nothing.
-use mathlib.Core.Path.{refl}
-use Rattle.vectors.specs.Vec.{vscale}
-use Rattle.vectors.proofs.Vec3.scale.Goals as goal
-
-pub returns : goal.returns
-unfolding vscale
-returns c = refl

@@ -1,8 +1,0 @@
--- `Vec3::sub` meets its contract. Assumes nothing.
-use mathlib.Core.Path.{refl}
-use Rattle.vectors.specs.Vec.{vsub}
-use Rattle.vectors.proofs.Vec3.sub.Goals as goal
-
-pub returns : goal.returns
-unfolding vsub
-returns c = refl
