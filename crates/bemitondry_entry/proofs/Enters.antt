@@ -4,8 +4,7 @@ use mathlib.Core.Path.{◌≡◌, refl, ◌∙◌, ap}
 use mathlib.Core.Bool.{Bool, true, false, cond}
 use mathlib.Core.List.{List}
 use lib.Dec.{eqb}
-use Rattle.plan_entry.specs.declared.Added.{Added}
-use Rattle.plan_entry.specs.declared.Added.TheVariants.{Refused, Done}
+use Rattle.std.specs.Prelude.{Result, Ok, Err}
 use Rattle.plan_entry.specs.Inside.Adds.{added_of, AddsOne}
 use Rattle.reply.specs.declared.Reply.{Reply}
 use Rattle.reply.specs.Reply.{refused_reply, one_word, reply_of}
@@ -16,12 +15,12 @@ unfolding added_reply added_of reply_of
 added_as number index = go (eqb number 0)
   where
     go
-        : (b : Bool) → added_reply (cond b (Done index) (Refused number)) ≡ cond b (one_word index)
+        : (b : Bool) → added_reply (cond b (Ok index) (Err number)) ≡ cond b (one_word index)
         (refused_reply number)
     go true = refl
     go false = refl
 
-pub enters_table : (number index : ℕ) (w left : List ℕ) (a : Added) (w' : List ℕ) (r : Reply)
+pub enters_table : (number index : ℕ) (w left : List ℕ) (a : Result ℕ ℕ) (w' : List ℕ) (r : Reply)
     → AddsOne number index w left a w' → r ≡ added_reply a → EntersTable number index w left r w'
 enters_table number index w left a w' r e h =
     record { reply = h ∙ ap added_reply e.answer ∙ added_as number index; table = e.table }

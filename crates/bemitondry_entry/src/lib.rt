@@ -7,16 +7,15 @@ ghost use Rattle.std.specs.Prelude.{◌≡◌};
 ghost use Rattle.bemitondry_entry.specs.Inside.Enters.{added_reply, MaterialEnters, LightEnters, PieceEnters};
 
 use plan::{Floats, Words};
-use plan_entry::Added;
 use reply::Reply;
 
 // A number of what entered, or a refusal.
-fn added_reply(a: Added) -> Reply
+fn added_reply(a: Result<u32, u32>) -> Reply
     ensures { result ≡ added_reply a }
 {
     match a {
-        Added::Refused(n) => reply::refused(n),
-        Added::Done(i) => reply::done(i, 0, 0, 0, 0, 0, 0, 0),
+        Err(n) => reply::refused(n),
+        Ok(i) => reply::done(i, 0, 0, 0, 0, 0, 0, 0),
     }
 }
 

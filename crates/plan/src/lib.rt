@@ -4,7 +4,6 @@
 
 ghost use Rattle.std.specs.Prelude.{◌≡◌, ◌+◌, ◌*◌};
 ghost use Rattle.plan.specs.Records.{word_of, float_of, vec_of, no_vec, material_at, light_at};
-ghost use Rattle.plan.specs.Inside.None.{no_shape, no_head};
 ghost use Rattle.plan.specs.Records.{light_in, cutter_at, head_at};
 
 use sdf::Shape;
@@ -12,14 +11,14 @@ use vectors::Vec3;
 
 // What a call works on, in one table: the plan, its arguments, the nodes and the order of a tree. It is held twice, as
 // words and as floats.
-pub type Words = [u32; 27296];
+pub type Words = [u32; TABLE];
 
-pub type Floats = [f32; 27296];
+pub type Floats = [f32; TABLE];
 
 // The nodes and the order of a tree by themselves.
-pub type Nodes = [u32; 4599];
+pub type Nodes = [u32; NODES_WORDS];
 
-pub type Order = [u32; 256];
+pub type Order = [u32; ORDER_WORDS];
 
 pub const NODES_WORDS: usize = 4599;
 
@@ -91,14 +90,14 @@ pub struct QuadLight {
     pub emit: Vec3,
 }
 
-// A cutter: its kind word, and the shape that its words make.
+// A cutter: its kind word, and the shape that its words make. The word stays, since a plan is defined over any words.
 #[derive(Clone, Copy)]
 pub struct Cutter {
     pub kind: u32,
     pub shape: Shape,
 }
 
-// A piece but for its cutters: how many, and the place of the first.
+// A piece but for its cutters: how many, and the place of the first. Its kind is the word, as a cutter's.
 #[derive(Clone, Copy)]
 pub struct Head {
     pub material: u32,
@@ -119,12 +118,7 @@ pub struct DistHit {
 pub fn word_in(ws: &Words, i: usize) -> u32
     ensures { result ≡ word_of ws.now i }
 {
-    if i < TABLE {
-        return ws[i];
-    }
-    // Only as a slice does a table tell the proof its length.
-    let _words: &[u32] = ws;
-    0
+    ws.get(i).copied().unwrap_or(0)
 }
 
 // Word i + j, with no sum that could wrap.
@@ -142,14 +136,21 @@ pub fn word_after(ws: &Words, i: usize, j: u32) -> u32
 fn float_in(fs: &Floats, i: usize) -> f32
     ensures { result ≡ float_of fs.now i }
 {
-    if i < TABLE {
-        return fs[i];
-    }
-    let _floats: &[f32] = fs;
-    0.0 / 0.0
+    fs.get(i).copied().unwrap_or(f32::NAN)
 }
 
-// Place k of row r.
+// Word k of row r.
+fn word_at(ws: &Words, r: usize, k: u32) -> u32
+    ensures { result ≡ word_of ws.now (16 * r + k) }
+{
+    if r < ROWS {
+        return word_in(ws, 16 * r + k as usize);
+    }
+    let _words: &[u32] = ws;
+    0
+}
+
+// Float k of row r.
 fn float_at(fs: &Floats, r: usize, k: u32) -> f32
     ensures { result ≡ float_of fs.now (16 * r + k) }
 {
@@ -177,6 +178,7 @@ pub fn vec_at(fs: &Floats, r: usize, k: u32) -> Vec3
 }
 
 // The material in row r.
+#[tactic(auto, unfolding(crate::specs::Records::material_at))]
 pub fn material_at(fs: &Floats, r: usize) -> Material
     ensures { result ≡ material_at fs.now r }
 {
@@ -188,6 +190,7 @@ pub fn material_at(fs: &Floats, r: usize) -> Material
 }
 
 // The light whose first row is r.
+#[tactic(auto, unfolding(crate::specs::Records::light_at))]
 pub fn light_at(fs: &Floats, r: usize) -> QuadLight
     ensures { result ≡ light_at fs.now r }
 {
@@ -201,6 +204,7 @@ pub fn light_at(fs: &Floats, r: usize) -> QuadLight
 }
 
 // Light l: two rows a record.
+#[tactic(auto, unfolding(crate::specs::Records::light_in))]
 pub fn light_in(fs: &Floats, l: u32) -> QuadLight
     ensures { result ≡ light_in fs.now l }
 {
@@ -213,91 +217,41 @@ fn no_vec() -> Vec3
     Vec3::splat(0.0 / 0.0)
 }
 
-fn no_shape() -> Shape
-    ensures { result ≡ no_shape }
-{
-    refusals::shape_of(0, no_vec(), no_vec(), 0.0 / 0.0, 0.0 / 0.0)
-}
-
 // The cutter in row r; past the last row what no words make.
+#[tactic(auto, unfolding(crate::specs::Records::cutter_at))]
 pub fn cutter_at(ws: &Words, fs: &Floats, r: usize) -> Cutter
     ensures { result ≡ cutter_at ws.now fs.now r }
 {
-    if r < ROWS {
-        let i = 16 * r;
-        let kind = ws[i];
-        let shape = refusals::shape_of(
-            kind,
-            Vec3 {
-                x: fs[i + 1],
-                y: fs[i + 2],
-                z: fs[i + 3],
-            },
-            Vec3 {
-                x: fs[i + 4],
-                y: fs[i + 5],
-                z: fs[i + 6],
-            },
-            fs[i + 7],
-            fs[i + 8],
-        );
-        return Cutter { kind, shape };
-    }
-    // Only as a slice does a table tell the proof its length, which every place here lies past.
-    let _words: &[u32] = ws;
-    let _floats: &[f32] = fs;
-    Cutter {
-        kind: 0,
-        shape: no_shape(),
-    }
+    let kind = word_at(ws, r, 0);
+    let shape = refusals::shape_of(
+        kind,
+        vec_at(fs, r, 1),
+        vec_at(fs, r, 4),
+        float_at(fs, r, 7),
+        float_at(fs, r, 8),
+    );
+    Cutter { kind, shape }
 }
 
 // The piece in row r; past the last row what no words make.
+#[tactic(auto, unfolding(crate::specs::Records::head_at))]
 pub fn head_at(ws: &Words, fs: &Floats, r: usize) -> Head
     ensures { result ≡ head_at ws.now fs.now r }
 {
-    if r < ROWS {
-        let i = 16 * r;
-        let kind = ws[i + 3];
-        let shape = refusals::shape_of(
-            kind,
-            Vec3 {
-                x: fs[i + 4],
-                y: fs[i + 5],
-                z: fs[i + 6],
-            },
-            Vec3 {
-                x: fs[i + 7],
-                y: fs[i + 8],
-                z: fs[i + 9],
-            },
-            fs[i + 10],
-            fs[i + 11],
-        );
-        return Head {
-            material: ws[i],
-            blend: fs[i + 1],
-            cutters: ws[i + 2],
-            kind,
-            shape,
-            place: ws[i + 12],
-        };
-    }
-    // Only as a slice does a table tell the proof its length, which every place here lies past.
-    let _words: &[u32] = ws;
-    let _floats: &[f32] = fs;
-    no_head()
-}
-
-fn no_head() -> Head
-    ensures { result ≡ no_head }
-{
+    let kind = word_at(ws, r, 3);
+    let shape = refusals::shape_of(
+        kind,
+        vec_at(fs, r, 4),
+        vec_at(fs, r, 7),
+        float_at(fs, r, 10),
+        float_at(fs, r, 11),
+    );
     Head {
-        material: 0,
-        blend: 0.0 / 0.0,
-        cutters: 0,
-        kind: 0,
-        shape: no_shape(),
-        place: 0,
+        material: word_at(ws, r, 0),
+        blend: float_at(fs, r, 1),
+        cutters: word_at(ws, r, 2),
+        kind,
+        shape,
+        place: word_at(ws, r, 12),
     }
 }

@@ -1,5 +1,6 @@
 // Entries: a material, a plane, an object or a light that stands in a table's arguments is tested and written into its
-// plan, or nothing changes.
+// plan, or nothing changes. Each answers the place of what entered in its list, or the number that refuses it: any that
+// its caller says applies already, so no enum.
 
 #![tactic(auto)]
 
@@ -7,7 +8,7 @@ ghost use Rattle.std.specs.Prelude.{◌≡◌, ◌+◌, ◌&&◌, leb, ltb};
 ghost use Rattle.plan.specs.Sections.{cutter_places};
 ghost use Rattle.plan_write.specs.Written.{section_of};
 ghost use Rattle.plan_entry.specs.Entry.{arg_cuts_number, args_number, room_number, piece_number, new_place};
-ghost use Rattle.plan_entry.specs.Inside.Adds.{added_of, AddsPiece, AddsMaterial, AddsLight};
+ghost use Rattle.plan_entry.specs.Inside.Adds.{AddsPiece, AddsMaterial, AddsLight};
 ghost use Rattle.plan.specs.Plan.{plan_in};
 ghost use Rattle.plan_test.specs.Tests.{counts_ok};
 ghost use Rattle.refusals.specs.Refusals.{unless, lower, no_room};
@@ -15,22 +16,8 @@ ghost use Rattle.refusals.specs.Refusals.{unless, lower, no_room};
 use plan::{Floats, Words};
 use plan_test::Solids;
 
-#[derive(Clone, Copy)]
-pub enum Added {
-    Refused(u32),
-    Done(u32),
-}
-
-fn added_of(no: u32, index: u32) -> Added
-    ensures { result ≡ added_of no index }
-{
-    if no == 0 {
-        return Added::Done(index);
-    }
-    Added::Refused(no)
-}
-
 // 2 where there are more than 8, or where the arguments, of so many bytes, end before the last.
+#[tactic(auto, unfolding(crate::specs::Entry::arg_cuts_number))]
 fn arg_cuts_number(ws: &Words, fs: &Floats, bytes: usize, n: u32) -> u32
     ensures { result ≡ arg_cuts_number ws.now fs.now bytes n }
 {
@@ -42,6 +29,7 @@ fn arg_cuts_number(ws: &Words, fs: &Floats, bytes: usize, n: u32) -> u32
     refusals::NO_ROOM
 }
 
+#[tactic(auto, unfolding(crate::specs::Entry::args_number))]
 fn args_number(among: bool, ws: &Words, fs: &Floats, bytes: usize) -> u32
     ensures { result ≡ args_number among ws.now fs.now bytes }
 {
@@ -56,16 +44,11 @@ fn args_number(among: bool, ws: &Words, fs: &Floats, bytes: usize) -> u32
 fn places_left(s: Solids, n: u32) -> bool
     ensures { result ≡ leb (s.planes + (s.objects + n)) cutter_places }
 {
-    if s.planes > plan::CUTTERS as u64 {
-        return false;
-    }
-    if s.objects > plan::CUTTERS as u64 {
-        return false;
-    }
-    s.planes + (s.objects + n as u64) <= plan::CUTTERS as u64
+    plan_test::fits(s.planes, s.objects.saturating_add(n as u64))
 }
 
 // Room for one more in a list, and for n cutters more.
+#[tactic(auto, unfolding(crate::specs::Entry::room_number))]
 fn room_number(count: u32, most: u32, s: Solids, n: u32) -> u32
     ensures { result ≡ room_number count most s n }
 {
@@ -85,6 +68,7 @@ fn most_of(among: bool) -> u32
     if among { plan::PLANES } else { plan::OBJECTS }
 }
 
+#[tactic(auto, unfolding(crate::specs::Entry::piece_number))]
 fn piece_number(before: u32, among: bool, ws: &Words, fs: &Floats, s: Solids, bytes: usize) -> u32
     ensures { result ≡ piece_number before among ws.now fs.now s bytes }
 {
@@ -103,6 +87,7 @@ fn piece_number(before: u32, among: bool, ws: &Words, fs: &Floats, s: Solids, by
 }
 
 // Objects fill the places from the front, planes from the back.
+#[tactic(auto, unfolding(crate::specs::Entry::new_place))]
 fn new_place(among: bool, s: Solids, n: u32) -> u32
     ensures { result ≡ new_place among s n }
 {
@@ -124,7 +109,13 @@ fn new_place(among: bool, s: Solids, n: u32) -> u32
 
 // A plane or an object with its cutters: all enters, or nothing changes. `before` is a number that applies already,
 // `fs` the table seen as floats, `bytes` how long the arguments are.
-pub fn add_piece(before: u32, among: bool, ws: &mut Words, fs: &Floats, bytes: usize) -> Added
+pub fn add_piece(
+    before: u32,
+    among: bool,
+    ws: &mut Words,
+    fs: &Floats,
+    bytes: usize,
+) -> Result<u32, u32>
     ensures { AddsPiece before among ws.old fs.now bytes result ws.new }
 {
     let s = plan_test::judge_solids(ws, fs);
@@ -133,9 +124,9 @@ pub fn add_piece(before: u32, among: bool, ws: &mut Words, fs: &Floats, bytes: u
     let place = new_place(among, s, plan_write::arg_word(ws, 2));
     if no == 0 {
         plan_write::with_piece(among, ws, place);
-        return added_of(no, count);
+        return Ok(count);
     }
-    added_of(no, count)
+    Err(no)
 }
 
 // What a record gets: `before` is what applies already, `own` what its words get.
@@ -151,7 +142,7 @@ fn record_number(before: u32, own: u32, ws: &Words, count: u32, most: u32) -> u3
     )
 }
 
-pub fn add_material(before: u32, ws: &mut Words, fs: &Floats) -> Added
+pub fn add_material(before: u32, ws: &mut Words, fs: &Floats) -> Result<u32, u32>
     ensures { AddsMaterial before ws.old fs.now result ws.new }
 {
     let count = plan::word_in(ws, plan::COUNT_MATERIALS);
@@ -159,12 +150,12 @@ pub fn add_material(before: u32, ws: &mut Words, fs: &Floats) -> Added
     let no = record_number(before, own, ws, count, plan::MATERIALS);
     if no == 0 {
         plan_write::with_material(ws, count);
-        return added_of(no, count);
+        return Ok(count);
     }
-    added_of(no, count)
+    Err(no)
 }
 
-pub fn add_light(before: u32, ws: &mut Words, fs: &Floats) -> Added
+pub fn add_light(before: u32, ws: &mut Words, fs: &Floats) -> Result<u32, u32>
     ensures { AddsLight before ws.old fs.now result ws.new }
 {
     let count = plan::word_in(ws, plan::COUNT_LIGHTS);
@@ -172,7 +163,7 @@ pub fn add_light(before: u32, ws: &mut Words, fs: &Floats) -> Added
     let no = record_number(before, own, ws, count, plan::LIGHTS);
     if no == 0 {
         plan_write::with_light(ws, count);
-        return added_of(no, count);
+        return Ok(count);
     }
-    added_of(no, count)
+    Err(no)
 }

@@ -7,14 +7,12 @@ use Prim.Native.Nat.{ℕ, ◌+◌, ◌*◌, ◌<◌, ◌≤◌}
 use native.Mathlib.Omega.{arith}
 use lib.Dec.{T}
 use native.Mathlib.Decide.{dec_le}
-use borrow.Author.Tests.{ne_eqb}
 use lib.ListN.{length}
 use lib.Ieee.{Float, nan, inf, fin, binary32, add, sub, neg, lt, le, eq}
 use Rattle.scalar.specs.Extremes.{fmax}
 use Rattle.vectors.specs.declared.Vec3.{Vec3}
 use Rattle.vectors.specs.Vec.{vsub, vdot, vlength}
 use Rattle.sdf.specs.declared.Shape.{Shape}
-use Rattle.sdf.specs.declared.Shape.TheVariants.{Cone}
 use Rattle.sdf.specs.Shapes.{sphere, plane, dist_of}
 use Rattle.float_order.specs.Inside.Order.{number}
 use Rattle.float_order.proofs.Order.{yes_of}
@@ -29,14 +27,6 @@ use Rattle.plan.specs.Plan.{cuts_by, piece_at}
 use Rattle.plan.specs.Nearest.{cut_by, carve, piece_dist, hit_of, closer}
 use Rattle.plan.proofs.Lists.{row_head, head_row, head_shape, cutter_shape, head_past, cutter_past}
 use Rattle.plan_near.proofs.Near.{near_far, near_is, cut_near, no_closer, passed, choice}
-
--- a kind that is none of the others
-pub cone_kind
-    : (k : ℕ) (a b : Vec3) (u v : Float) → (k ≡ 0 → ⊥) → (k ≡ 1 → ⊥) → (k ≡ 2 → ⊥) → (k ≡ 3 → ⊥) → (k ≡ 4 → ⊥)
-    → (k ≡ 5 → ⊥) → shape_of k a b u v ≡ Cone a b u v
-unfolding shape_of
-cone_kind k a b u v h0 h1 h2 h3 h4 h5 =
-    rw (ne_eqb k 0 h0, ne_eqb k 1 h1, ne_eqb k 2 h2, ne_eqb k 3 h3, ne_eqb k 4 h4, ne_eqb k 5 h5)
 
 -- a piece's distance and material by its row
 pub dist_row

@@ -15,10 +15,8 @@ ghost use Rattle.plan.specs.Plan.{cuts_by, piece_at, pieces_from, plan_of};
 ghost use Rattle.plan.specs.Nearest.{cut_by, carve, piece_dist, hit_of, closer, nearest, nothing, list_hit};
 
 use plan::{DistHit, Floats, Words};
+use refusals::Kind;
 use vectors::Vec3;
-
-// The kind of a plane.
-const PLANE: u32 = 2;
 
 // The distance of a kind and the eight floats from i on, or t where it is no less. The point goes by its three floats,
 // and the shape by its place: what is passed as a struct would go through memory.
@@ -40,14 +38,14 @@ fn dist_in(kind: u32, fs: &Floats, i: usize, x: f32, y: f32, z: f32, t: f32) -> 
         y: fs[i + 4],
         z: fs[i + 5],
     };
-    match kind {
-        0 => sdf_near::sphere(a, b.x, p, t),
-        1 => sdf_near::round_box(a, b, fs[i + 6], p, t),
-        2 => p.dot(a) - b.x,
-        3 => sdf_near::capsule(a, b, fs[i + 6], p, t),
-        4 => sdf_near::torus(a, b.x, b.y, p, t),
-        5 => sdf_caps::cylinder(a, b, fs[i + 6], p, t),
-        _ => sdf_caps::cone(a, b, fs[i + 6], fs[i + 7], p, t),
+    match refusals::shape_kind(kind) {
+        Kind::Sphere => sdf_near::sphere(a, b.x, p, t),
+        Kind::RoundBox => sdf_near::round_box(a, b, fs[i + 6], p, t),
+        Kind::Plane => p.dot(a) - b.x,
+        Kind::Capsule => sdf_near::capsule(a, b, fs[i + 6], p, t),
+        Kind::Torus => sdf_near::torus(a, b.x, b.y, p, t),
+        Kind::Cylinder => sdf_caps::cylinder(a, b, fs[i + 6], p, t),
+        Kind::Cone => sdf_caps::cone(a, b, fs[i + 6], fs[i + 7], p, t),
     }
 }
 
@@ -82,14 +80,12 @@ fn carve(ws: &Words, fs: &Floats, place: u32, n: u32, p: Vec3, d: f32, best: f32
     ensures { Near best (carve (cuts_by ws.now fs.now (cutter_row + place) n) p d) result }
 {
     let mut left = d;
-    let mut j: u32 = 0;
-    while j < n {
+    for j in 0..n {
         let r = plan::CUTTER_ROW as usize + place as usize + j as usize;
         left = cut(ws, fs, r, p, left);
         if best <= left {
             return best;
         }
-        j += 1;
     }
     left
 }
@@ -118,7 +114,7 @@ fn plane_in(ws: &Words, fs: &Floats, r: usize, x: f32, y: f32, z: f32, t: f32) -
 {
     if r < plan::ROWS {
         let i = 16 * r;
-        if ws[i + 3] == PLANE {
+        if ws[i + 3] == Kind::Plane as u32 {
             if ws[i + 2] == 0 {
                 let n = Vec3 {
                     x: fs[i + 4],
@@ -169,15 +165,14 @@ fn nearest(ws: &Words, fs: &Floats, r: u32, n: u32, p: Vec3, best: DistHit) -> D
     ensures { result ≡ nearest (pieces_from ws.now fs.now r n) p best }
 {
     let mut hit = best;
-    let mut j: u32 = 0;
-    while j < n {
+    for j in 0..n {
         hit = plane_nearer(ws, fs, r as usize + j as usize, p, hit);
-        j += 1;
     }
     hit
 }
 
 // The objects by the plain list, from a bound.
+#[tactic(auto, unfolding(plan::specs::Plan::plan_of, plan::specs::Nearest::list_hit))]
 pub fn query_linear(ws: &Words, fs: &Floats, p: Vec3, best: DistHit) -> DistHit
     ensures { result ≡ list_hit (plan_of ws.now fs.now) p best }
 {
@@ -185,6 +180,7 @@ pub fn query_linear(ws: &Words, fs: &Floats, p: Vec3, best: DistHit) -> DistHit
 }
 
 // The planes, from f32::MAX and material 0.
+#[tactic(auto, unfolding(plan::specs::Plan::plan_of))]
 pub fn planes_hit(ws: &Words, fs: &Floats, p: Vec3) -> DistHit
     ensures { result ≡ nearest (plan_of ws.now fs.now).planes p nothing }
 {

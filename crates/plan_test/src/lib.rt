@@ -1,4 +1,5 @@
-// Tests of a plan: which number it gets for the sections that a call reads.
+// Tests of a plan: which number it gets for the sections that a call reads. `planes` tells planes from objects by two
+// values, as an enum would.
 
 #![tactic(auto)]
 
@@ -14,7 +15,8 @@ ghost use Rattle.plan_test.specs.Inside.Flat.{cuts_flat};
 
 use plan::{Floats, Words};
 
-// Pieces: what their own words get, whether every place is right, and how many places they use.
+// Pieces: what their own words get, whether every place is right, and how many places they use. No Result: all three
+// are told, whatever the number.
 #[derive(Clone, Copy)]
 pub struct Tally {
     pub number: u32,
@@ -22,7 +24,7 @@ pub struct Tally {
     pub used: u64,
 }
 
-// What planes and objects get, and how many places each of the two lists uses.
+// What planes and objects get, and how many places each of the two lists uses, told whatever the number.
 #[derive(Clone, Copy)]
 pub struct Solids {
     pub number: u32,
@@ -76,15 +78,13 @@ fn tally_rows(ws: &Words, fs: &Floats, planes: bool, r: u32, n: u32) -> Tally
     let mut number: u32 = 0;
     let mut placed = true;
     let mut used: u64 = 0;
-    let mut j: u32 = 0;
-    while j < n {
+    for j in 0..n {
         let row = r as usize + j as usize;
         let cutters = plan::word_after(ws, 16 * row, 2);
         let place = plan::word_after(ws, 16 * row, 12);
         number = refusals::lower(number, record_test::own_at(ws, fs, planes, materials, row));
         placed = refusals::both(placed, place_ok(planes, used, place, cutters));
-        used = used + cutters as u64;
-        j += 1;
+        used += cutters as u64;
     }
     Tally {
         number,
@@ -97,16 +97,9 @@ fn tally_rows(ws: &Words, fs: &Floats, planes: bool, r: u32, n: u32) -> Tally
 fn pieces_cuts(ws: &Words, fs: &Floats, r: u32, n: u32) -> u32
     ensures { result ≡ lowest_of piece_cuts (pieces_from ws.now fs.now r n) }
 {
-    let mut least: u32 = 0;
-    let mut j: u32 = 0;
-    while j < n {
-        least = refusals::lower(
-            least,
-            record_test::piece_cuts(ws, fs, r as usize + j as usize),
-        );
-        j += 1;
-    }
-    least
+    refusals::lowest_number(n, |j| {
+        record_test::piece_cuts(ws, fs, r as usize + j as usize)
+    })
 }
 
 // The same, where every place is right.
@@ -146,16 +139,10 @@ pub fn objects_number(ws: &Words, fs: &Floats) -> u32
 }
 
 // Whether planes and objects together have no more cutters than there are places.
-fn fits(planes: u64, objects: u64) -> bool
+pub fn fits(planes: u64, objects: u64) -> bool
     ensures { result ≡ leb (planes + objects) cutter_places }
 {
-    if planes > plan::CUTTERS as u64 {
-        return false;
-    }
-    if objects > plan::CUTTERS as u64 {
-        return false;
-    }
-    planes + objects <= plan::CUTTERS as u64
+    planes.saturating_add(objects) <= plan::CUTTERS as u64
 }
 
 // Planes and objects with their cutters.
@@ -187,13 +174,7 @@ pub fn judge_solids(ws: &Words, fs: &Floats) -> Solids
 fn lights_number(fs: &Floats, n: u32) -> u32
     ensures { result ≡ lowest_of light_number (list_from (light_in fs.now) 0 n) }
 {
-    let mut least: u32 = 0;
-    let mut l: u32 = 0;
-    while l < n {
-        least = refusals::lower(least, record_test::light_number(plan::light_in(fs, l)));
-        l += 1;
-    }
-    least
+    refusals::lowest_number(n, |l| record_test::light_number(plan::light_in(fs, l)))
 }
 
 // Planes and objects with their cutters, and lights.

@@ -1,5 +1,5 @@
 // What entries write: a record that stands in a table's arguments becomes a row of its plan, its cutters rows after
-// those that are there, and its list has one more.
+// those that are there, and its list has one more. `among` tells planes from objects by two values, as an enum would.
 
 #![tactic(auto)]
 
@@ -11,6 +11,7 @@ ghost use Rattle.plan_write.specs.Written.{first_word, record_words, put_row, pu
 ghost use Rattle.plan_write.specs.Written.{with_material_words, with_light_words};
 
 use plan::Words;
+use refusals::Kind;
 
 // Word k of the arguments.
 pub fn arg_word(ws: &Words, k: u32) -> u32
@@ -43,15 +44,20 @@ pub fn count_of(among: bool, ws: &Words) -> u32
 fn used_words(kind: u32) -> u32
     ensures { result ≡ used_words kind }
 {
-    match kind {
-        0 | 2 => 4,
-        4 => 5,
-        6 => 8,
-        _ => 7,
+    match Kind::try_from(kind) {
+        Ok(Kind::Sphere) => 4,
+        Ok(Kind::RoundBox) => 7,
+        Ok(Kind::Plane) => 4,
+        Ok(Kind::Capsule) => 7,
+        Ok(Kind::Torus) => 5,
+        Ok(Kind::Cylinder) => 7,
+        Ok(Kind::Cone) => 8,
+        Err(_) => 7,
     }
 }
 
 // Word i + j, where the kind uses word j of its eight; else 0.
+#[tactic(auto, unfolding(crate::specs::Written::used_word))]
 fn used_word(ws: &Words, i: usize, kind: u32, j: u32) -> u32
     ensures { result ≡ used_word ws.now i kind j }
 {
@@ -114,6 +120,7 @@ fn cutter_words(ws: &Words, j: u32) -> [u32; 16]
 }
 
 // Word k of a record of n words.
+#[tactic(auto, unfolding(crate::specs::Written::first_word))]
 fn first_word(ws: &Words, n: u32, k: u32) -> u32
     ensures { result ≡ first_word ws.now n k }
 {
@@ -124,38 +131,19 @@ fn first_word(ws: &Words, n: u32, k: u32) -> u32
 fn record_words(ws: &Words, n: u32) -> [u32; 16]
     ensures { result ≡ record_words ws.now n }
 {
-    [
-        first_word(ws, n, 0),
-        first_word(ws, n, 1),
-        first_word(ws, n, 2),
-        first_word(ws, n, 3),
-        first_word(ws, n, 4),
-        first_word(ws, n, 5),
-        first_word(ws, n, 6),
-        first_word(ws, n, 7),
-        first_word(ws, n, 8),
-        first_word(ws, n, 9),
-        first_word(ws, n, 10),
-        first_word(ws, n, 11),
-        first_word(ws, n, 12),
-        first_word(ws, n, 13),
-        first_word(ws, n, 14),
-        first_word(ws, n, 15),
-    ]
+    let mut rec = [0u32; 16];
+    for k in 0..16u32 {
+        rec[k as usize] = first_word(ws, n, k);
+    }
+    rec
 }
 
 // The sixteen words of row r of the plan.
 fn put_row(ws: &mut Words, r: usize, rec: &[u32; 16])
     ensures { ws.new ≡ put_row ws.old r rec.now }
 {
-    // Only as a slice does a table tell the proof its length.
-    let _rec: &[u32] = rec;
     if r < plan::ARGS_ROW as usize {
-        let mut j: usize = 0;
-        while j < 16 {
-            ws[16 * r + j] = rec[j];
-            j += 1;
-        }
+        ws[16 * r..16 * r + 16].copy_from_slice(rec);
     }
 }
 
@@ -163,15 +151,13 @@ fn put_row(ws: &mut Words, r: usize, rec: &[u32; 16])
 fn put_cutters(ws: &mut Words, place: u32, n: u32)
     ensures { ws.new ≡ put_cutters ws.old place n }
 {
-    let mut j: u32 = 0;
-    while j < n {
+    for j in 0..n {
         let rec = cutter_words(ws, j);
         put_row(
             ws,
             plan::CUTTER_ROW as usize + place as usize + j as usize,
             &rec,
         );
-        j += 1;
     }
 }
 
@@ -181,6 +167,7 @@ fn one_more(n: u32) -> u32
     if n < 256 { n + 1 } else { n }
 }
 
+#[tactic(auto, unfolding(crate::specs::Written::with_piece))]
 pub fn with_piece(among: bool, ws: &mut Words, place: u32)
     ensures { ws.new ≡ with_piece among ws.old place }
 {
@@ -196,6 +183,7 @@ pub fn with_piece(among: bool, ws: &mut Words, place: u32)
     ws[plan::COUNT_OBJECTS] = one_more(count);
 }
 
+#[tactic(auto, unfolding(crate::specs::Written::with_material_words))]
 pub fn with_material(ws: &mut Words, count: u32)
     ensures { count ≡ count_of materials ws.old → ws.new ≡ with_material_words ws.old }
 {
@@ -205,6 +193,7 @@ pub fn with_material(ws: &mut Words, count: u32)
 }
 
 // A light takes two rows, and the second is spare.
+#[tactic(auto, unfolding(crate::specs::Written::with_light_words))]
 pub fn with_light(ws: &mut Words, count: u32)
     ensures { count ≡ count_of lights ws.old → ws.new ≡ with_light_words ws.old }
 {

@@ -1,5 +1,6 @@
 // Tests of single records: which number a material, a light, a cutter or a piece's own words get wherever they are
-// given.
+// given. `planes` tells planes from objects by two values, as an enum would; a kind is the word of a row, also where it
+// is no kind's.
 
 #![tactic(auto)]
 
@@ -18,8 +19,10 @@ ghost use Rattle.record_test.specs.Numbers.{own_number, piece_cuts};
 ghost use Rattle.record_test.specs.Inside.Prims.{prim_in, least_of, none_above, none_below};
 
 use plan::{Cutter, Floats, Head, Material, QuadLight, Words};
+use refusals::Kind;
 use vectors::Vec3;
 
+#[tactic(auto, unfolding(crate::specs::Numbers::material_number))]
 pub fn material_number(m: Material) -> u32
     ensures { result ≡ material_number m }
 {
@@ -48,6 +51,7 @@ fn dark(e1: Vec3, e2: Vec3) -> bool
     e1.cross(e2).length() == 0.0
 }
 
+#[tactic(auto, unfolding(crate::specs::Numbers::light_number))]
 pub fn light_number(l: QuadLight) -> u32
     ensures { result ≡ light_number l }
 {
@@ -65,15 +69,6 @@ pub fn light_number(l: QuadLight) -> u32
         ),
         refusals::unless(refusals::NO_EXTENT, !dark(l.v1.sub(l.v0), l.v3.sub(l.v0))),
     )
-}
-
-fn same(a: bool, b: bool) -> bool
-    ensures { result ≡ beq a b }
-{
-    if a {
-        return b;
-    }
-    !b
 }
 
 // The lowest of what a piece gets by its primitive, blend, material and list. Nearly always that is 0, which branches
@@ -101,6 +96,7 @@ fn own_of(prim: u32, blend: bool, material: bool, list: bool) -> u32
 }
 
 // A piece's own words, among planes or among objects.
+#[tactic(auto, unfolding(crate::specs::Numbers::own_number))]
 pub fn own_number(planes: bool, materials: u32, h: Head) -> u32
     ensures { result ≡ own_number planes materials h }
 {
@@ -109,7 +105,7 @@ pub fn own_number(planes: bool, materials: u32, h: Head) -> u32
         refusals::prim_number(h.kind, shape),
         refusals::radius(h.blend),
         h.material < materials,
-        same(h.kind == 2, planes),
+        (h.kind == Kind::Plane as u32) == planes,
     )
 }
 
@@ -185,11 +181,15 @@ fn capsule_number(a: Vec3, b: Vec3, r: f32) -> u32
 fn least_of(kind: u32) -> f32
     ensures { result ≡ least_of kind }
 {
-    match kind {
-        0 => 0.0,
-        1 => 0.0,
-        4 => 0.0,
-        _ => -refusals::FAR,
+    match Kind::try_from(kind) {
+        Ok(Kind::Sphere) => 0.0,
+        Ok(Kind::RoundBox) => 0.0,
+        Ok(Kind::Plane) => -refusals::FAR,
+        Ok(Kind::Capsule) => -refusals::FAR,
+        Ok(Kind::Torus) => 0.0,
+        Ok(Kind::Cylinder) => -refusals::FAR,
+        Ok(Kind::Cone) => -refusals::FAR,
+        Err(_) => -refusals::FAR,
     }
 }
 
@@ -211,6 +211,7 @@ fn none_above(a: Vec3, b: Vec3, u: f32, v: f32) -> bool
 }
 
 // The same of below, where the second three are at least `least`.
+#[tactic(auto, unfolding(crate::specs::Inside::Prims::none_below))]
 fn none_below(a: Vec3, b: Vec3, u: f32, v: f32, least: f32) -> bool
     ensures { result ≡ none_below a b u v least }
 {
@@ -227,10 +228,10 @@ fn none_below(a: Vec3, b: Vec3, u: f32, v: f32, least: f32) -> bool
 fn plain(kind: u32, a: Vec3, b: Vec3, u: f32, v: f32) -> bool
     ensures { result ≡ true → prim_in kind a b u v ≡ 0 }
 {
-    if kind > 6 {
+    if kind > Kind::Cone as u32 {
         return false;
     }
-    if kind == 2 {
+    if kind == Kind::Plane as u32 {
         return false;
     }
     if none_above(a, b, u, v) {
@@ -255,15 +256,17 @@ fn prim_in(kind: u32, ax: f32, ay: f32, az: f32, bx: f32, by: f32, bz: f32, u: f
         y: by,
         z: bz,
     };
-    match kind {
-        0 => bad_unless(refusals::both(refusals::coordinates(a), refusals::radius(bx))),
-        1 => bad_unless(block_ok(a, b, u)),
-        2 => bad_unless(plane_ok(a, bx)),
-        3 => capsule_number(a, b, u),
-        4 => bad_unless(torus_ok(a, bx, by)),
-        5 => bad_unless(ends_ok(a, b, u)),
-        6 => bad_unless(cone_ok(a, b, u, v)),
-        _ => refusals::BAD_NUMBER,
+    match Kind::try_from(kind) {
+        Ok(Kind::Sphere) => {
+            bad_unless(refusals::both(refusals::coordinates(a), refusals::radius(bx)))
+        }
+        Ok(Kind::RoundBox) => bad_unless(block_ok(a, b, u)),
+        Ok(Kind::Plane) => bad_unless(plane_ok(a, bx)),
+        Ok(Kind::Capsule) => capsule_number(a, b, u),
+        Ok(Kind::Torus) => bad_unless(torus_ok(a, bx, by)),
+        Ok(Kind::Cylinder) => bad_unless(ends_ok(a, b, u)),
+        Ok(Kind::Cone) => bad_unless(cone_ok(a, b, u, v)),
+        Err(_) => refusals::BAD_NUMBER,
     }
 }
 
@@ -304,12 +307,13 @@ pub fn own_at(ws: &Words, fs: &Floats, planes: bool, materials: u32, r: usize) -
             prim,
             refusals::radius(fs[i + 1]),
             ws[i] < materials,
-            same(kind == 2, planes),
+            (kind == Kind::Plane as u32) == planes,
         );
     }
     own_number(planes, materials, plan::head_at(ws, fs, r))
 }
 
+#[tactic(auto, unfolding(crate::specs::Numbers::cutter_number))]
 fn cutter_number(c: Cutter) -> u32
     ensures { result ≡ cutter_number c }
 {
@@ -318,6 +322,7 @@ fn cutter_number(c: Cutter) -> u32
 }
 
 // What the cutter in row r gets.
+#[tactic(auto, unfolding(crate::specs::Numbers::cutter_number, plan::specs::Records::cutter_at))]
 fn cut_at(ws: &Words, fs: &Floats, r: usize) -> u32
     ensures { result ≡ cutter_number (cutter_at ws.now fs.now r) }
 {
@@ -332,17 +337,13 @@ fn cut_at(ws: &Words, fs: &Floats, r: usize) -> u32
 pub fn cuts_number(ws: &Words, fs: &Floats, base: u32, place: u32, n: u32) -> u32
     ensures { result ≡ cuts_number (cuts_by ws.now fs.now (base + place) n) }
 {
-    let mut least: u32 = 0;
-    let mut j: u32 = 0;
-    while j < n {
-        let r = base as usize + place as usize + j as usize;
-        least = refusals::lower(least, cut_at(ws, fs, r));
-        j += 1;
-    }
-    least
+    refusals::lowest_number(n, |j| {
+        cut_at(ws, fs, base as usize + place as usize + j as usize)
+    })
 }
 
 // The cutters of the piece in row r.
+#[tactic(auto, unfolding(crate::specs::Numbers::piece_cuts, plan::specs::Plan::piece_at))]
 pub fn piece_cuts(ws: &Words, fs: &Floats, r: usize) -> u32
     ensures { result ≡ piece_cuts (piece_at ws.now fs.now r) }
 {

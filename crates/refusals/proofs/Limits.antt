@@ -1,4 +1,4 @@
--- The limits of ranges are the numbers of document 01, by the test that serves every constant. Assumes nothing.
+-- The limits of ranges are the numbers that they are named for, by the test that serves every constant. Assumes nothing.
 use Prim.Native.Nat.{◌-◌, ◌*◌, ◌^◌}
 use mathlib.Core.Path.{◌≡◌, refl}
 use mathlib.Core.Bool.{true, false}

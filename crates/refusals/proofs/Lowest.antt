@@ -9,8 +9,8 @@ use native.Mathlib.Numerals.{add-one}
 use native.Mathlib.Omega.{arith}
 use lib.Dec.{T, eqb-suc-zero}
 use Rattle.words.specs.Lists.{list_from, All}
-use Rattle.words.proofs.Runs.{from_snoc}
-use Rattle.refusals.specs.Refusals.{unless, lower, lowest_of}
+use Rattle.words.proofs.Runs.{from_snoc, from_same}
+use Rattle.refusals.specs.Refusals.{unless, lower, lowest_of, lowest_in}
 
 pub told : (b : Bool) → T b ↔ (b ≡ true)
 told true = (λ _. refl, λ _. tt)
@@ -82,3 +82,13 @@ module _ {A : Type 0} (number : A → ℕ) (g : ℕ → A) (a : ℕ) where
       : (j : ℕ) → lowest_of number (list_from g a (j + 1)) ≡ lower (lowest_of number (list_from g a j))
       (number (g (a + j)))
   lowest_more j = rw (add-one, from_snoc g a j, lowest_snoc number)
+
+-- the lowest of a list of a function of the index is that of the indices
+module _ {A : Type 0} (number : A → ℕ) where
+  at_each : (g : ℕ → A) (a n : ℕ) → lowest_of (λ i. number (g i)) (list_from (λ i. i) a n) ≡ lowest_of number (list_from g a n)
+  unfolding lowest_of list_from
+  at_each g a zero = refl
+  at_each g a (suc n) = ap (lower (number (g a))) (at_each g (suc a) n)
+
+  pub lowest_at : (g : ℕ → A) (a n : ℕ) → lowest_in (λ i. number (g (a + i))) n ≡ lowest_of number (list_from g a n)
+  lowest_at g a n = at_each (λ i. g (a + i)) 0 n ∙ ap (lowest_of number) (from_same (λ i. g (a + i)) g 0 a n (λ k h. ap g (omega arith)))

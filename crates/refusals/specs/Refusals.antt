@@ -1,5 +1,6 @@
 -- "Numbers sent back. Each number is tested only where it applies; where several apply the lowest is sent."
 use Rattle.std.specs.Prelude.{ℕ, min, Bool, cond, List, [], ◌∷◌, eqb}
+use Rattle.words.specs.Lists.{list_from}
 
 abbrev pub done : ℕ
 done = 0
@@ -41,3 +42,6 @@ lower a b = cond (eqb a done) b (cond (eqb b done) a (min a b))
 unfoldable pub lowest_of : {A : Type 0} → (A → ℕ) → List A → ℕ  -- the lowest of what each of a list gets
 lowest_of number [] = done
 lowest_of number (x ∷ xs) = lower (number x) (lowest_of number xs)
+
+abbrev pub lowest_in : (ℕ → ℕ) → ℕ → ℕ  -- of what each of the first n gets
+lowest_in number n = lowest_of number (list_from (λ i. i) 0 n)

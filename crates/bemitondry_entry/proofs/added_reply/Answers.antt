@@ -2,10 +2,10 @@
 use Rattle.bemitondry_entry.specs.Inside.Enters.{added_reply}
 use Rattle.bemitondry_entry.proofs.added_reply.Goals as goal
 
-pub returns-in-Refused : goal.returns-in-Refused
+pub returns-in-Err : goal.returns-in-Err
 unfolding added_reply
-returns-in-Refused c = rw (c.in-Refused.is, c.refused.ensures)
+returns-in-Err c = rw (c.in-Err.is, c.refused.ensures)
 
-pub returns-in-Done : goal.returns-in-Done
+pub returns-in-Ok : goal.returns-in-Ok
 unfolding added_reply
-returns-in-Done c = rw (c.in-Done.is, c.done.ensures)
+returns-in-Ok c = rw (c.in-Ok.is, c.done.ensures)

@@ -1,18 +1,16 @@
 -- What an entry on a loaded table replies, and the table that it leaves.
-use Rattle.std.specs.Prelude.{ℕ, ◌≡◌, Bool, cond, List, eqb, Float}
+use Rattle.std.specs.Prelude.{ℕ, ◌≡◌, Bool, cond, List, Result, Ok, Err, eqb, Float}
 use Rattle.plan.specs.Sections.{materials, lights}
 use Rattle.plan.specs.Plan.{count_of}
-use Rattle.plan_entry.specs.declared.Added.{Added}
-use Rattle.plan_entry.specs.declared.Added.TheVariants.{Refused, Done}
 use Rattle.plan_write.specs.Written.{section_of}
 use Rattle.plan_write.specs.Written.{with_material_words, with_light_words}
 use Rattle.reply.specs.declared.Reply.{Reply}
 use Rattle.reply.specs.Reply.{refused_reply, one_word, reply_of}
 use Rattle.bemitondry_entry.specs.Entries.{light_entry, material_entry, piece_entry, piece_left}
 
-unfoldable pub added_reply : Added → Reply
-added_reply (Refused n) = refused_reply n
-added_reply (Done i) = one_word i
+unfoldable pub added_reply : Result ℕ ℕ → Reply
+added_reply (Err n) = refused_reply n
+added_reply (Ok i) = one_word i
 
 -- where the number is 0 the reply is the number of what entered, and the table is `left`
 pub record EntersTable (number index : ℕ) (w left : List ℕ) (r : Reply) (w' : List ℕ) : Type 0 where

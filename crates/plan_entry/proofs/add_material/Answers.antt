@@ -1,7 +1,7 @@
 -- `plan_entry::add_material` meets its contract: by the test of its number. Assumes nothing.
 use borrow.Author.Tests.{eq-eqb, ne_eqb}
 use Rattle.plan_entry.specs.Entry.{record_number}
-use Rattle.plan_entry.proofs.Answers.{enters}
+use Rattle.plan_entry.proofs.Answers.{enters, taken, refused}
 use Rattle.plan_entry.proofs.add_material.Goals as goal
 
 pub returns-then-no-eq0 : goal.returns-then-no-eq0
@@ -14,7 +14,7 @@ returns-then-no-eq0 c =
       ← c.material_number-own.ensures,
     )
     c.record_number-no.ensures)
-    (rw (← c.word_in-count.ensures) c.added_of.ensures)
+    (rw (← c.word_in-count.ensures) (taken _ _ c.if-no-eq0.true))
     (rw (eq-eqb _ 0 c.if-no-eq0.true)
     (c.with_material.ensures c.word_in-count.ensures))
 
@@ -28,5 +28,5 @@ returns c =
       ← c.material_number-own.ensures,
     )
     c.record_number-no.ensures)
-    (rw (← c.word_in-count.ensures) c.added_of-2.ensures)
+    (rw (← c.word_in-count.ensures) (refused _ _ c.if-no-eq0.false))
     (rw (ne_eqb _ 0 c.if-no-eq0.false))

@@ -1,6 +1,6 @@
 -- `plan_entry::add_piece` meets its contract: by the test of its number. Assumes nothing.
 use borrow.Author.Tests.{eq-eqb, ne_eqb}
-use Rattle.plan_entry.proofs.Answers.{adds_piece}
+use Rattle.plan_entry.proofs.Answers.{adds_piece, taken, refused}
 use Rattle.plan_entry.proofs.add_piece.Goals as goal
 
 pub returns-then-no-eq0 : goal.returns-then-no-eq0
@@ -11,7 +11,7 @@ returns-then-no-eq0 c =
     c.piece_number-no.ensures
     c.count_of-count.ensures
     (rw c.arg_word.ensures at c.new_place-place.ensures)
-    c.added_of.ensures
+    (taken _ _ c.if-no-eq0.true)
     (rw (eq-eqb _ 0 c.if-no-eq0.true) c.with_piece.ensures)
 
 pub returns : goal.returns
@@ -22,5 +22,5 @@ returns c =
     c.piece_number-no.ensures
     c.count_of-count.ensures
     (rw c.arg_word.ensures at c.new_place-place.ensures)
-    c.added_of-2.ensures
+    (refused _ _ c.if-no-eq0.false)
     (rw (ne_eqb _ 0 c.if-no-eq0.false))

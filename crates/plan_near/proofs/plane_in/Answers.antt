@@ -5,5 +5,5 @@ use Rattle.plan_near.proofs.plane_in.Goals as goal
 
 pub returns-then-ws-i-eq0 : goal.returns-then-ws-i-eq0
 returns-then-ws-i-eq0 c = let a = c.args in
-    λ _. inl (plane_row a.ws.now a.fs.now a.r (record { x = a.x; y = a.y; z = a.z }) c.if-ws-i-eq-PLANE.true
+    λ _. inl (plane_row a.ws.now a.fs.now a.r (record { x = a.x; y = a.y; z = a.z }) c.if-ws-i.true
     c.if-ws-i-eq0.true c.dot.result c.dot.ensures)

@@ -17,7 +17,6 @@ loop-j-init c =
     let w = a.ws.now in
     let f = a.fs.now in (
       search rules,
-      search rules,
       own_start w f a.r a.planes (count_of sections.materials w),
       placed_start w f a.r a.planes,
       used_start w f a.r,
@@ -32,11 +31,10 @@ pub loop-j-preserved : goal.loop-j-preserved
 unfolding place_ok head_at
 loop-j-preserved c = (
   search rules,
-  omega arith,
-  rw (own_more, c.lower-number.ensures, c.own_at.ensures, c.loop-j.invariant.2),
+  rw (own_more, c.lower-number.ensures, c.own_at.ensures, c.loop-j.invariant.1),
   rw (placed_more, c.both-placed.ensures, c.place_ok.ensures)
-      (rw (c.word_after-place.ensures, c.word_after-cutters.ensures, c.loop-j.invariant.3, c.loop-j.invariant.4)),
-  rw (used_more, c.word_after-cutters.ensures, c.loop-j.invariant.4),
+      (rw (c.word_after-place.ensures, c.word_after-cutters.ensures, c.loop-j.invariant.2, c.loop-j.invariant.3)),
+  rw (used_more, c.word_after-cutters.ensures, c.loop-j.invariant.3),
   sum_words c.loop-j.used _ c.loop-j.j (search rules) (search rules),
 )
 
@@ -45,4 +43,4 @@ unfolding tally_of
 returns c =
     let i = c.loop-j.invariant in
     let e : c.loop-j.j ≡ c.args.n = omega arith in
-    rw (sym e, sym i.0, i.2, i.3, i.4)
+    rw (sym e, sym i.0, i.1, i.2, i.3)

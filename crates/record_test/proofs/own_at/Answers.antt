@@ -8,7 +8,7 @@ pub returns-then-r-lt-ROWS : goal.returns-then-r-lt-ROWS
 unfolding own_number
 returns-then-r-lt-ROWS c =
     let low = c.if-r-lt-ROWS.true in
-    rw (head_row, c.own_of.ensures, c.same.ensures, c.radius.ensures)
+    rw (head_row, c.own_of.ensures, c.radius.ensures)
     (rw (c.prim_at-prim.ensures (omega (arith, low)), head_shape))
 
 pub returns : goal.returns

@@ -6,17 +6,17 @@ use Rattle.record_test.specs.Inside.Prims.{none_below}
 use Rattle.record_test.proofs.Prims.{plain_number}
 use Rattle.record_test.proofs.plain.Goals as goal
 
-pub returns-then-kind-gt6 : goal.returns-then-kind-gt6
-returns-then-kind-gt6 c e = absurd (false≢true e)
+pub returns-then-kind : goal.returns-then-kind
+returns-then-kind c e = absurd (false≢true e)
 
-pub returns-then-kind-eq2 : goal.returns-then-kind-eq2
-returns-then-kind-eq2 c e = absurd (false≢true e)
+pub returns-then-kind-2 : goal.returns-then-kind-2
+returns-then-kind-2 c e = absurd (false≢true e)
 
 pub returns-then-none_below : goal.returns-then-none_below
 returns-then-none_below c e =
     plain_number _ _ _ _ (sym c.none_above.ensures ∙ c.if-none_above.true)
-    (sym (ap not (c.no_length.ensures ∙ ap no_length c.sub.ensures)) ∙ e) _ c.if-kind-gt6.false
-    c.if-kind-eq2.false
+    (sym (ap not (c.no_length.ensures ∙ ap no_length c.sub.ensures)) ∙ e) _ c.if-kind.false
+    c.if-kind-2.false
     (sym (c.none_below.ensures ∙ ap (none_below _ _ _ _) c.least_of.ensures) ∙ c.if-none_below.true)
 
 pub returns-else-none_below : goal.returns-else-none_below

@@ -1,39 +1,40 @@
 -- `record_test::prim_in` meets its contract: each arm is a kind. Assumes nothing.
 use mathlib.Core.Path.{sym}
-use native.Mathlib.Omega.{arith}
+use Rattle.refusals.specs.declared.Kind.TheVariants.{Sphere, RoundBox, Plane, Capsule, Torus, Cylinder, Cone}
+use Rattle.refusals.proofs.ByKind.{kind_is, no_kind}
 use Rattle.record_test.proofs.Prims.{sphere_number, block_number, plane_number, capsule_number, torus_number}
 use Rattle.record_test.proofs.Prims.{cylinder_number, cone_number, other_number}
 use Rattle.record_test.proofs.prim_in.Goals as goal
 
-pub returns-in-0 : goal.returns-in-0
-returns-in-0 c =
-    rw (c.in-0.is, sphere_number)
+pub returns-in-Ok-Sphere : goal.returns-in-Ok-Sphere
+returns-in-Ok-Sphere c =
+    rw (kind_is c.args.kind Sphere (rw c.in-Ok-Sphere.field-0-is at c.in-Ok-Sphere.ensures), sphere_number)
     (rw (c.bad_unless.ensures, c.both.ensures, c.radius.ensures, c.coordinates.ensures))
 
-pub returns-in-1 : goal.returns-in-1
-returns-in-1 c =
-    rw (c.in-1.is, block_number) (rw (c.bad_unless-in-1.ensures, c.block_ok.ensures))
+pub returns-in-Ok-RoundBox : goal.returns-in-Ok-RoundBox
+returns-in-Ok-RoundBox c =
+    rw (kind_is c.args.kind RoundBox (rw c.in-Ok-RoundBox.field-0-is at c.in-Ok-RoundBox.ensures), block_number) (rw (c.bad_unless-in-Ok-RoundBox.ensures, c.block_ok.ensures))
 
-pub returns-in-2 : goal.returns-in-2
-returns-in-2 c =
-    rw (c.in-2.is, plane_number) (rw (c.bad_unless-in-2.ensures, c.plane_ok.ensures))
+pub returns-in-Ok-Plane : goal.returns-in-Ok-Plane
+returns-in-Ok-Plane c =
+    rw (kind_is c.args.kind Plane (rw c.in-Ok-Plane.field-0-is at c.in-Ok-Plane.ensures), plane_number) (rw (c.bad_unless-in-Ok-Plane.ensures, c.plane_ok.ensures))
 
-pub returns-in-3 : goal.returns-in-3
-returns-in-3 c = rw (c.in-3.is, capsule_number) c.capsule_number.ensures
+pub returns-in-Ok-Capsule : goal.returns-in-Ok-Capsule
+returns-in-Ok-Capsule c = rw (kind_is c.args.kind Capsule (rw c.in-Ok-Capsule.field-0-is at c.in-Ok-Capsule.ensures), capsule_number) c.capsule_number.ensures
 
-pub returns-in-4 : goal.returns-in-4
-returns-in-4 c =
-    rw (c.in-4.is, torus_number) (rw (c.bad_unless-in-4.ensures, c.torus_ok.ensures))
+pub returns-in-Ok-Torus : goal.returns-in-Ok-Torus
+returns-in-Ok-Torus c =
+    rw (kind_is c.args.kind Torus (rw c.in-Ok-Torus.field-0-is at c.in-Ok-Torus.ensures), torus_number) (rw (c.bad_unless-in-Ok-Torus.ensures, c.torus_ok.ensures))
 
-pub returns-in-5 : goal.returns-in-5
-returns-in-5 c =
-    rw (c.in-5.is, cylinder_number) (rw (c.bad_unless-in-5.ensures, c.ends_ok.ensures))
+pub returns-in-Ok-Cylinder : goal.returns-in-Ok-Cylinder
+returns-in-Ok-Cylinder c =
+    rw (kind_is c.args.kind Cylinder (rw c.in-Ok-Cylinder.field-0-is at c.in-Ok-Cylinder.ensures), cylinder_number) (rw (c.bad_unless-in-Ok-Cylinder.ensures, c.ends_ok.ensures))
 
-pub returns-in-6 : goal.returns-in-6
-returns-in-6 c =
-    rw (c.in-6.is, cone_number) (rw (c.bad_unless-in-6.ensures, c.cone_ok.ensures))
+pub returns-in-Ok-Cone : goal.returns-in-Ok-Cone
+returns-in-Ok-Cone c =
+    rw (kind_is c.args.kind Cone (rw c.in-Ok-Cone.field-0-is at c.in-Ok-Cone.ensures), cone_number) (rw (c.bad_unless-in-Ok-Cone.ensures, c.cone_ok.ensures))
 
-pub returns-in_default : goal.returns-in_default
-returns-in_default c =
+pub returns-in-Err : goal.returns-in-Err
+returns-in-Err c =
     let a = c.args in
-    sym (other_number _ _ _ _ a.kind (omega arith))
+    sym (other_number _ _ _ _ a.kind (no_kind a.kind _ c.in-Err.ensures))

@@ -1,33 +1,25 @@
 -- `refusals::shape_of` meets its contract: each arm is a kind. Assumes nothing.
-use native.Mathlib.Omega.{arith}
-use borrow.Author.Tests.{ne_eqb}
-use Rattle.refusals.specs.Prims.{shape_of}
+use Rattle.std.proofs.Common.{sym}
+use Rattle.refusals.proofs.ByKind.{shape_by}
 use Rattle.refusals.proofs.shape_of.Goals as goal
 
-pub returns-in-0 : goal.returns-in-0
-unfolding shape_of
-returns-in-0 c = rw c.in-0.is
+pub returns-in-Sphere : goal.returns-in-Sphere
+returns-in-Sphere c = rw (shape_by, sym c.shape_kind.ensures, c.in-Sphere.is)
 
-pub returns-in-1 : goal.returns-in-1
-unfolding shape_of
-returns-in-1 c = rw c.in-1.is
+pub returns-in-RoundBox : goal.returns-in-RoundBox
+returns-in-RoundBox c = rw (shape_by, sym c.shape_kind.ensures, c.in-RoundBox.is)
 
-pub returns-in-2 : goal.returns-in-2
-unfolding shape_of
-returns-in-2 c = rw c.in-2.is
+pub returns-in-Plane : goal.returns-in-Plane
+returns-in-Plane c = rw (shape_by, sym c.shape_kind.ensures, c.in-Plane.is)
 
-pub returns-in-3 : goal.returns-in-3
-unfolding shape_of
-returns-in-3 c = rw c.in-3.is
+pub returns-in-Capsule : goal.returns-in-Capsule
+returns-in-Capsule c = rw (shape_by, sym c.shape_kind.ensures, c.in-Capsule.is)
 
-pub returns-in-4 : goal.returns-in-4
-unfolding shape_of
-returns-in-4 c = rw c.in-4.is
+pub returns-in-Torus : goal.returns-in-Torus
+returns-in-Torus c = rw (shape_by, sym c.shape_kind.ensures, c.in-Torus.is)
 
-pub returns-in-5 : goal.returns-in-5
-unfolding shape_of
-returns-in-5 c = rw c.in-5.is
+pub returns-in-Cylinder : goal.returns-in-Cylinder
+returns-in-Cylinder c = rw (shape_by, sym c.shape_kind.ensures, c.in-Cylinder.is)
 
-pub returns-in_default : goal.returns-in_default
-unfolding shape_of
-returns-in_default c = simp (ne_eqb c.args.kind 0 (λ e. omega arith), ne_eqb c.args.kind 1 (λ e. omega arith), ne_eqb c.args.kind 2 (λ e. omega arith), ne_eqb c.args.kind 3 (λ e. omega arith), ne_eqb c.args.kind 4 (λ e. omega arith), ne_eqb c.args.kind 5 (λ e. omega arith))
+pub returns-in-Cone : goal.returns-in-Cone
+returns-in-Cone c = rw (shape_by, sym c.shape_kind.ensures, c.in-Cone.is)
