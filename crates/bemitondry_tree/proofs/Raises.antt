@@ -19,9 +19,10 @@ use Rattle.plan_test.proofs.Exact.{objects_exact}
 use Rattle.bvh_boxes.specs.Boxes.{boxes_of}
 use Rattle.bvh_boxes.proofs.Lists.{boxes_length}
 use Rattle.bvh_rules.specs.declared.Sub.{Sub}
-use Rattle.bvh_rules.specs.declared.Sub.TheVariants.{Bad, Good}
+use Rattle.std.specs.Prelude.{Option, Some, None}
 use Rattle.bvh_rules.specs.Nodes.{nodes_of, order_of}
 use Rattle.bvh_rules.specs.Check.{judge_of}
+use Rattle.bvh_rules.proofs.Level.{good_sub}
 use Rattle.bvh_rules.proofs.Lists.{nodes_length}
 use Rattle.bvh_rules.proofs.Trees.{stands_fit}
 use Rattle.bvh_rules.proofs.Exact.{tree_told}
@@ -123,7 +124,7 @@ module _ (before : ℕ) (p : Plan) where
 -- ---- an offer
 judge_none
     : (w : List ℕ) (f : List Float) (o : List ℕ) (bs : List Aabb) → eqb (length bs) 0 ≡ true
-    → judge_of 64 w f o bs ≡ Good 0 0
+    → judge_of 64 w f o bs ≡ good_sub 0 0
 unfolding judge_of
 judge_none w f o bs e = rw e
 
@@ -139,15 +140,15 @@ module _ (w : List ℕ) (f : List Float) (long : length w ≡ 27296) (sound : ob
       few = omega (arith, boxes_length (plan_of w f), few_objects (plan_of w f) sound)
 
       go
-          : (b : Bool) → eqb (length bs) 0 ≡ b → (s : Sub)
+          : (b : Bool) → eqb (length bs) 0 ≡ b → (s : Option Sub)
           → judge_of 64 (nodes_of w) (nodes_of f) (order_of w) bs ≡ s → size_in s ≤ 511
-      go b n Bad q = omega arith
-      go true n (Good next end) q =
-          let z : 0 ≡ next = ap size_in (sym (judge_none (nodes_of w) (nodes_of f) (order_of w) bs n)
+      go b n None q = omega arith
+      go true n (Some s) q =
+          let z : 0 ≡ s.next = ap size_in (sym (judge_none (nodes_of w) (nodes_of f) (order_of w) bs n)
           ∙ q) in omega arith
-      go false n (Good next end) q =
+      go false n (Some s) q =
           let some : 0 < length bs = omega (arith, eqb-false (length bs) 0 n) in
-          let t = tree_told (nodes_of w) (nodes_of f) (order_of w) bs (nodes_length w long) few next end some q in
+          let t = tree_told (nodes_of w) (nodes_of f) (order_of w) bs (nodes_length w long) few s.next s.ends some q in
           omega (
             arith,
             t.1.1,
@@ -166,7 +167,7 @@ module _ (before : ℕ) (w : List ℕ) (f : List Float) where
   unfolding offer_number
   of_not e = rw (ne_eqb _ 0 e)
 
-  module _ (o n u : ℕ) (s : Sub) (eo : o ≡ objects_number (plan_of w f)) (z : o ≡ 0) (es : s ≡ judged_tree w f)
+  module _ (o n u : ℕ) (s : Option Sub) (eo : o ≡ objects_number (plan_of w f)) (z : o ≡ 0) (es : s ≡ judged_tree w f)
       (eu : s ≡ judged_tree w f → u ≡ offered_tree w f) (en : n ≡ lower before u) where
     given : objects_number (plan_of w f) ≡ 0
     given = sym eo ∙ z

@@ -1,7 +1,7 @@
 -- Build and offer: "with no objects they send 0 and no nodes, and leave both tables zero. An accepted offer copies the
 -- tree's words and the order, and zeroes what lies past them. A build that ends in 7 leaves node and order tables all
 -- zero."
-use Rattle.std.specs.Prelude.{ℕ, ◌+◌, ◌*◌, cond, List, length, replicate, ltb, eqb, Float}
+use Rattle.std.specs.Prelude.{ℕ, ◌+◌, ◌*◌, cond, Option, Some, None, List, length, replicate, ltb, eqb, Float}
 use Rattle.words.specs.Lists.{list_from}
 use Rattle.refusals.specs.Refusals.{too_deep, unless, lower}
 use Rattle.plan.specs.Sections.{nodes_first, order_first, nodes_words, order_places}
@@ -10,7 +10,6 @@ use Rattle.plan.specs.Plan.{Plan, plan_of}
 use Rattle.plan_test.specs.Tests.{objects_number}
 use Rattle.bvh_boxes.specs.Boxes.{boxes_of}
 use Rattle.bvh_rules.specs.declared.Sub.{Sub}
-use Rattle.bvh_rules.specs.declared.Sub.TheVariants.{Bad, Good}
 use Rattle.bvh_rules.specs.Nodes.{nodes_of, order_of}
 use Rattle.bvh_rules.specs.Check.{judge_of, offered_number}
 use Rattle.bvh_build.specs.Tables.{low_enough}
@@ -27,7 +26,7 @@ of_objects before p number = lower before (cond (eqb (objects_number p) 0) numbe
 unfoldable pub build_number : ℕ → Plan → ℕ  -- a build of the plan's objects; before is a number that applies already
 build_number before p = of_objects before p (unless too_deep (low_enough p))
 
-unfoldable pub judged_tree : List ℕ → List Float → Sub  -- the tree offered, as the table's nodes and order
+unfoldable pub judged_tree : List ℕ → List Float → Option Sub  -- the tree offered, as the table's nodes and order
 judged_tree w f = judge_of 64 (nodes_of w) (nodes_of f) (order_of w) (boxes_of (plan_of w f))
 
 unfoldable pub offered_tree : List ℕ → List Float → ℕ
@@ -36,9 +35,9 @@ offered_tree w f = offered_number (nodes_of w) (nodes_of f) (order_of w) (boxes_
 unfoldable pub offer_number : ℕ → List ℕ → List Float → ℕ
 offer_number before w f = of_objects before (plan_of w f) (offered_tree w f)
 
-abbrev pub size_in : Sub → ℕ  -- how many nodes a good tree has
-size_in Bad = 0
-size_in (Good next end) = next
+abbrev pub size_in : Option Sub → ℕ  -- how many nodes a good tree has
+size_in None = 0
+size_in (Some s) = s.next
 
 unfoldable pub front_word : List ℕ → ℕ → ℕ → ℕ → ℕ  -- word i from a place on, where it is one of the first k; else 0
 front_word w from k i = cond (ltb i k) (word_of w (from + i)) 0

@@ -17,11 +17,7 @@ use reply::Reply;
 fn clear(ws: &mut [u32])
     ensures { ws.new ≡ replicate (length ws.old) 0 }
 {
-    let mut i: usize = 0;
-    while i < ws.len() {
-        ws[i] = 0;
-        i += 1;
-    }
+    ws.fill(0);
 }
 
 // The tree of the plan's objects, in tables of its own; where it is not built or is too deep they are all zero.
@@ -45,12 +41,12 @@ pub fn build(before: u32, ws: &Words, fs: &Floats, nw: &mut Nodes, ow: &mut Orde
     reply::refused(refusals::lower(before, o))
 }
 
-fn size_in(s: Sub) -> usize
+fn size_in(s: Option<Sub>) -> usize
     ensures { result ≡ size_in s }
 {
     match s {
-        Sub::Bad => 0,
-        Sub::Good(next, _end) => next as usize,
+        None => 0,
+        Some(tree) => tree.next as usize,
     }
 }
 
@@ -64,15 +60,13 @@ fn word_if(there: bool, word: u32) -> u32
 fn copy_front(ws: &Words, from: u32, k: usize, to: &mut [u32])
     ensures { to.new ≡ list_from (front_word ws.now from k) 0 (length to.old) }
 {
-    let mut i: usize = 0;
-    while i < to.len() {
-        to[i] = word_if(i < k, plan::word_in(ws, from as usize + i));
-        i += 1;
+    for (i, word) in to.iter_mut().enumerate() {
+        *word = word_if(i < k, plan::word_in(ws, from as usize + i));
     }
 }
 
 // What the tree gets that is offered as the table's nodes and order, good or not with 64 levels.
-fn offered_number(s: Sub, ws: &Words, fs: &Floats) -> u32
+fn offered_number(s: Option<Sub>, ws: &Words, fs: &Floats) -> u32
     ensures { s ≡ judged_tree ws.now fs.now → result ≡ offered_tree ws.now fs.now }
 {
     if bvh_check::is_good(s) {
@@ -90,7 +84,7 @@ pub fn offer(before: u32, ws: &Words, fs: &Floats, nw: &mut Nodes, ow: &mut Orde
     let _words: &[u32] = ws;
     let o = plan_test::objects_number(ws, fs);
     if o == 0 {
-        let s = bvh_check::judge(ws, fs, 64);
+        let s = bvh_check::judge(ws, fs, bvh_rules::LEVELS);
         let n = refusals::lower(before, offered_number(s, ws, fs));
         if n == 0 {
             let size = bvh_build::narrow(size_in(s));

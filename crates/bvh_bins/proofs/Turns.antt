@@ -2,7 +2,7 @@
 -- Assumes nothing.
 use Rattle.std.proofs.Common.{◌≡◌, ℕ, zero, suc, ◌+◌, ◌-◌, ◌/◌, ◌<◌, ◌≤◌, List, length, get_or, take, drop, set, replicate, sym, refl, ap, ◌∙◌, add-one, arith, take_all, take-suc-set}
 use lib.ListN.{replicate-append-replicate}
-use lib.Ieee.{Float, nan}
+use lib.Ieee.{Float}
 use Rattle.sdf.specs.declared.Aabb.{Aabb}
 use Rattle.words.specs.Lists.{list_from}
 use Rattle.words.proofs.Runs.{get_d_from}
@@ -13,10 +13,11 @@ use Rattle.bvh_range.specs.Range.{members}
 use Rattle.bvh_range.proofs.Members.{members_more, members_none}
 use Rattle.bvh_range.proofs.Table.{box_count, length_put_row, rows_put}
 use Rattle.bvh_bins.specs.declared.Grid.{Grid}
+use Rattle.bvh_bins.specs.declared.Left.{Left}
 use Rattle.bvh_bins.specs.declared.Sweep.{Sweep}
 use Rattle.bvh_bins.specs.Bins.{bin_of, plus, Bins, no_bins, drop_in, bins_from, area, left_box, left_count, take_bin}
 use Rattle.bvh_bins.specs.Bins.{choose, sweep_at, sweep_from, split_by}
-use Rattle.bvh_bins.specs.Inside.Sums.{binned, left_area, left_through}
+use Rattle.bvh_bins.specs.Inside.Sums.{binned, left_area, left_through, left_at}
 
 -- ---- over the objects of a range
 module _ (bs : List Aabb) (os : List ℕ) (i : ℕ) where
@@ -81,27 +82,25 @@ module _ (σ : Bins) (i : ℕ) where
   unfolding left_count
   count_turn n n' p e = rw (p, e, add-one)
 
-  pub area_turn : (h : Aabb) (v : Float) → v ≡ area h → h ≡ left_box σ (i + 1) → v ≡ left_area σ i
-  unfolding left_area
-  area_turn h v p e = rw (p, e, add-one)
+  pub left_turn
+      : (h : Aabb) (v : Float) (n : ℕ) → v ≡ area h → h ≡ left_box σ (i + 1) → n ≡ left_count σ (i + 1)
+      → record { area = v; count = n } ≡ left_at σ i
+  unfolding left_area left_through
+  left_turn h v n p e c = rw (p, e, c, add-one)
 
-  pub through_turn : (n : ℕ) → n ≡ left_count σ (i + 1) → n ≡ left_through σ i
-  unfolding left_through
-  through_turn n e = rw (e, add-one)
-
--- one split more, with the left sums read from their lists
-pub sweep_more : (σ : Bins) (areas : List Float) (counts : List ℕ) (i : ℕ) (s : Sweep) → 0 < i → i ≤ 11
-    → areas ≡ list_from (left_area σ) 0 12 → counts ≡ list_from (left_through σ) 0 12
+-- one split more, with the left sums read from their list
+pub sweep_more : (σ : Bins) (lefts : List Left) (i : ℕ) (d : Left) (s : Sweep) → 0 < i → i ≤ 11
+    → lefts ≡ list_from (left_at σ) 0 12
     → sweep_from σ i s
     ≡ sweep_from σ (i - 1)
-    (choose (take_bin s (box_at σ.boxes i) (get_or σ.counts i 0)) (get_or areas (i - 1) nan)
-    (get_or counts (i - 1) 0) i)
+    (choose (take_bin s (box_at σ.boxes i) (get_or σ.counts i 0)) (get_or lefts (i - 1) d).area
+    (get_or lefts (i - 1) d).count i)
 unfolding sweep_from sweep_at left_area left_through
-sweep_more σ areas counts zero s h l p q = absurd (omega arith)
-sweep_more σ areas counts (suc k) s h l p q =
+sweep_more σ lefts zero d s h l p = absurd (omega arith)
+sweep_more σ lefts (suc k) d s h l p =
     let z : suc k - 1 ≡ k = omega arith in
     let y : 0 + k ≡ k = omega arith in
-    rw (z, p, q, get_d_from (left_area σ) 0 12 k nan (omega arith), get_d_from (left_through σ) 0 12 k 0 (omega arith), y)
+    rw (z, p, get_d_from (left_at σ) 0 12 k d (omega arith), y)
 
 pub sweep_none : (σ : Bins) (i : ℕ) (s : Sweep) → i ≤ 0 → sweep_from σ i s ≡ s
 unfolding sweep_from
@@ -110,14 +109,12 @@ sweep_none σ (suc i) s h = absurd (omega arith)
 
 -- the bins of a range, filled and swept, from what each step says
 pub best_of
-    : (g : Grid) (ms : List Aabb) (f f' : List Float) (n n' : List ℕ) (areas : List Float) (counts : List ℕ)
-    (m r : ℕ)
+    : (g : Grid) (ms : List Aabb) (f f' : List Float) (n n' : List ℕ) (lefts : List Left) (m r : ℕ)
     → m ≡ 12 → n ≡ replicate 12 0
     → table_boxes f ≡ replicate m nowhere → binned f' n' ≡ bins_from g (binned f n) ms
-    → (areas ≡ list_from (left_area (binned f' n')) 0 12) × (counts ≡ list_from (left_through (binned f' n')) 0 12)
-    → (areas ≡ list_from (left_area (binned f' n')) 0 12 → counts ≡ list_from (left_through (binned f' n')) 0 12
-    → r ≡ split_by (binned f' n'))
+    → lefts ≡ list_from (left_at (binned f' n')) 0 12
+    → (lefts ≡ list_from (left_at (binned f' n')) 0 12 → r ≡ split_by (binned f' n'))
     → r ≡ split_by (bins_from g no_bins ms)
-best_of g ms f f' n n' areas counts m r e₁ e₂ p q l s =
+best_of g ms f f' n n' lefts m r e₁ e₂ p q l s =
     let e : binned f n ≡ no_bins = rw (p, e₁, e₂) in
-    s l.0 l.1 ∙ ap split_by (q ∙ ap (λ (σ : Bins). bins_from g σ ms) e)
+    s l ∙ ap split_by (q ∙ ap (λ (σ : Bins). bins_from g σ ms) e)

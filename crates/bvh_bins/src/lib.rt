@@ -10,30 +10,40 @@ ghost use Rattle.bvh_range.specs.Inside.Table.{table_boxes, box_of_row};
 ghost use Rattle.bvh_range.specs.Inside.Numbers.{Numbers};
 ghost use Rattle.bvh_bins.specs.Bins.{grid_of, bin_at, bin_of, plus, no_bins, bins_from, area};
 ghost use Rattle.bvh_bins.specs.Bins.{cost_of, choose, take_bin, split_by};
-ghost use Rattle.bvh_bins.specs.Inside.Sums.{binned, AllNumbers, left_area, left_through};
+ghost use Rattle.bvh_bins.specs.Inside.Sums.{binned, AllNumbers, left_at};
 ghost use Rattle.bvh_bins.specs.Inside.Places.{from_first, to_last, Noted};
 
 use bvh_range::Row;
 use sdf::Aabb;
 
-// The bins, their floats, the split that is tried first, and the one where none is better.
+// The bins, and the split where none is better.
 const BINS: usize = 12;
-
-const BIN_FLOATS: usize = 96;
-
-const LAST_SPLIT: u32 = 11;
 
 const MIDDLE: u32 = 6;
 
 // The places of a range whose bins are noted.
 pub const PLACES: usize = 256;
 
-// Where the bins lie.
+pub type Places = [u32; PLACES];
+
+// The bins' boxes and their counts are two arrays, as a row of floats alone is worked on four floats at once.
+type Boxes = [f32; BINS * bvh_range::BOX_FLOATS];
+
+type Counts = [u32; BINS];
+
+// Where the bins lie. The axis is a number, as `Vec3::axis` takes it.
 #[derive(Clone, Copy)]
 pub struct Grid {
     pub axis: u32,
     pub low: f32,
     pub scale: f32,
+}
+
+// The bins up to some place: the area of their box, and their count.
+#[derive(Clone, Copy)]
+pub struct Left {
+    pub area: f32,
+    pub count: u32,
 }
 
 // The bins from some place on, and the best split so far.
@@ -45,6 +55,7 @@ pub struct Sweep {
     pub split: u32,
 }
 
+#[tactic(auto, unfolding(crate::specs::Bins::grid_of))]
 pub fn grid_of(c: Aabb) -> Grid
     ensures { result ≡ grid_of c }
 {
@@ -79,6 +90,7 @@ fn bin_at(x: f32) -> u32
     (b % 0x80_0000 + 0x80_0000) >> (150 - b / 0x80_0000)
 }
 
+#[tactic(auto, unfolding(crate::specs::Bins::bin_of))]
 pub fn bin_of(g: Grid, b: Aabb) -> u32
     ensures { result ≡ bin_of g b }
 {
@@ -86,29 +98,24 @@ pub fn bin_of(g: Grid, b: Aabb) -> u32
     bin_at((c.axis(g.axis) - g.low) * g.scale)
 }
 
+#[tactic(auto, unfolding(crate::specs::Bins::plus))]
 fn plus(a: u32, b: u32) -> u32
     ensures { result ≡ plus a b }
 {
-    let s = a as u64 + b as u64;
-    if s < 4294967296 {
-        return s as u32;
-    }
-    4294967295
+    a.saturating_add(b)
 }
 
 // A table of boxes around nothing.
 fn empty_boxes(t: &mut [f32])
     ensures { table_boxes t.new ≡ replicate (length t.old / 8) nowhere }
 {
-    let mut k: usize = 0;
-    while k < t.len() / bvh_range::BOX_FLOATS {
+    for k in 0..t.len() / bvh_range::BOX_FLOATS {
         bvh_range::put_row(t, k, bvh_range::no_row());
-        k += 1;
     }
 }
 
 // One more in count k.
-fn count_in(n: &mut [u32; 12], k: usize)
+fn count_in(n: &mut Counts, k: usize)
     ensures { n.new ≡ slice_set n.old k (plus (slice_index n.old k) 1) }
 {
     if k < BINS {
@@ -119,7 +126,7 @@ fn count_in(n: &mut [u32; 12], k: usize)
 }
 
 // One box more in bin k, whose corners are numbers.
-fn drop_in(t: &mut [f32; 96], n: &mut [u32; 12], k: usize, b: Row)
+fn drop_in(t: &mut Boxes, n: &mut Counts, k: usize, b: Row)
     ensures { (Numbers (box_at (table_boxes t.old) k)
         → table_boxes t.new ≡ set (table_boxes t.old) k
         (merge (box_at (table_boxes t.old) k) (box_of_row b)))
@@ -131,7 +138,7 @@ fn drop_in(t: &mut [f32; 96], n: &mut [u32; 12], k: usize, b: Row)
 }
 
 // The bin of the object at a place, noted where the table has that place.
-fn note(places: &mut [u32; 256], i: usize, k: u32)
+fn note(places: &mut Places, i: usize, k: u32)
     ensures { places.new ≡ slice_set places.old i k }
 {
     if i < PLACES {
@@ -142,14 +149,7 @@ fn note(places: &mut [u32; 256], i: usize, k: u32)
 }
 
 // The bins of a range, each object's noted at its place.
-fn fill_bins(
-    os: &[u32],
-    t: &[f32],
-    g: Grid,
-    b: &mut [f32; 96],
-    n: &mut [u32; 12],
-    places: &mut [u32; 256],
-)
+fn fill_bins(os: &[u32], t: &[f32], g: Grid, b: &mut Boxes, n: &mut Counts, places: &mut Places)
     ensures { (AllNumbers (table_boxes b.old)
         → binned b.new n.new ≡ bins_from g (binned b.old n.old)
         (members (table_boxes t.now) os.now))
@@ -157,17 +157,16 @@ fn fill_bins(
         (length os.now) }
 {
     let _places: &[u32] = places;
-    let mut i: usize = 0;
-    while i < os.len() {
-        let m = bvh_range::member(os, t, i);
+    for (i, o) in os.iter().enumerate() {
+        let m = bvh_range::row_at(t, *o as usize);
         let k = bin_of(g, bvh_range::box_in(m));
         note(places, i, k);
         drop_in(b, n, k as usize, m);
-        i += 1;
     }
 }
 
 // The source's `sa`.
+#[tactic(auto, unfolding(crate::specs::Bins::area))]
 fn area(b: Aabb) -> f32
     ensures { result ≡ area b }
 {
@@ -179,67 +178,60 @@ fn area(b: Aabb) -> f32
 }
 
 // For each bin the area and the count of the bins up to it.
-fn sweep_left(b: &[f32; 96], n: &[u32; 12], areas: &mut [f32; 12], counts: &mut [u32; 12])
-    ensures { (areas.new ≡ list_from (left_area (binned b.now n.now)) 0 12)
-        × (counts.new ≡ list_from (left_through (binned b.now n.now)) 0 12) }
+fn sweep_left(b: &Boxes, n: &Counts, lefts: &mut [Left; BINS])
+    ensures { lefts.new ≡ list_from (left_at (binned b.now n.now)) 0 12 }
 {
-    let _areas: &[f32] = areas;
-    let _counts: &[u32] = counts;
+    let _lefts: &[Left] = lefts;
     let mut hull = bvh_boxes::nowhere();
     let mut count: u32 = 0;
-    let mut i: usize = 0;
-    while i < BINS {
+    for i in 0..BINS {
         hull = bvh_range::wider(hull, bvh_range::box_at(b, i));
         count = plus(count, n[i]);
-        areas[i] = area(hull);
-        counts[i] = count;
-        i += 1;
+        lefts[i] = Left {
+            area: area(hull),
+            count,
+        };
     }
 }
 
-fn cost(la: f32, lc: u32, b: Aabb, n: u32) -> f32
-    ensures { result ≡ cost_of la lc b n }
+#[tactic(auto, unfolding(crate::specs::Bins::cost_of))]
+fn cost(left: Left, b: Aabb, n: u32) -> f32
+    ensures { result ≡ cost_of left.area left.count b n }
 {
-    la * std::num::nearest_u32_to_f32(lc) + area(b) * std::num::nearest_u32_to_f32(n)
+    left.area * std::num::nearest_u32_to_f32(left.count) + area(b) * std::num::nearest_u32_to_f32(n)
 }
 
+#[tactic(auto, unfolding(crate::specs::Bins::take_bin))]
 fn take_bin(s: Sweep, b: Aabb, n: u32) -> Sweep
     ensures { Numbers s.hull → result ≡ take_bin s b n }
 {
     Sweep {
         hull: bvh_range::wider(s.hull, b),
         count: plus(s.count, n),
-        cost: s.cost,
-        split: s.split,
+        ..s
     }
 }
 
-fn choose(s: Sweep, la: f32, lc: u32, i: u32) -> Sweep
-    ensures { result ≡ choose s la lc i }
+fn choose(s: Sweep, left: Left, i: u32) -> Sweep
+    ensures { result ≡ choose s left.area left.count i }
 {
-    if lc == 0 {
+    if left.count == 0 || s.count == 0 {
         return s;
     }
-    if s.count == 0 {
-        return s;
-    }
-    let hull = s.hull;
-    let c = cost(la, lc, hull, s.count);
+    let c = cost(left, s.hull, s.count);
     if c < s.cost {
         return Sweep {
-            hull,
-            count: s.count,
             cost: c,
             split: i,
+            ..s
         };
     }
     s
 }
 
-// The best split, tried from 11 down, given the areas and counts to the left.
-fn sweep_right(b: &[f32; 96], n: &[u32; 12], areas: &[f32; 12], counts: &[u32; 12]) -> u32
-    ensures { areas.now ≡ list_from (left_area (binned b.now n.now)) 0 12
-        → counts.now ≡ list_from (left_through (binned b.now n.now)) 0 12
+// The best split, tried from 11 down, given what lies to the left.
+fn sweep_right(b: &Boxes, n: &Counts, lefts: &[Left; BINS]) -> u32
+    ensures { lefts.now ≡ list_from (left_at (binned b.now n.now)) 0 12
         → result ≡ split_by (binned b.now n.now) }
 {
     let mut s = Sweep {
@@ -248,27 +240,26 @@ fn sweep_right(b: &[f32; 96], n: &[u32; 12], areas: &[f32; 12], counts: &[u32; 1
         cost: refusals::GREATEST,
         split: MIDDLE,
     };
-    let mut i: u32 = LAST_SPLIT;
-    while i > 0 {
-        let k = i as usize;
-        let taken = take_bin(s, bvh_range::box_at(b, k), n[k]);
-        s = choose(taken, areas[k - 1], counts[k - 1], i);
-        i -= 1;
+    for i in (1..BINS).rev() {
+        let taken = take_bin(s, bvh_range::box_at(b, i), n[i]);
+        s = choose(taken, lefts[i - 1], i as u32);
     }
     s.split
 }
 
-pub fn best_split(os: &[u32], t: &[f32], g: Grid, places: &mut [u32; 256]) -> u32
+pub fn best_split(os: &[u32], t: &[f32], g: Grid, places: &mut Places) -> u32
     ensures { (result ≡ split_by (bins_from g no_bins (members (table_boxes t.now) os.now)))
         × Noted (table_boxes t.now) g os.now places.new
         (length os.now) }
 {
-    let mut b = [0.0f32; BIN_FLOATS];
-    let mut n = [0u32; BINS];
-    let mut areas = [0.0f32; BINS];
-    let mut counts = [0u32; BINS];
+    let mut b: Boxes = [0.0; BINS * bvh_range::BOX_FLOATS];
+    let mut n: Counts = [0; BINS];
+    let mut lefts = [Left {
+        area: 0.0,
+        count: 0,
+    }; BINS];
     empty_boxes(&mut b);
     fill_bins(os, t, g, &mut b, &mut n, places);
-    sweep_left(&b, &n, &mut areas, &mut counts);
-    sweep_right(&b, &n, &areas, &counts)
+    sweep_left(&b, &n, &mut lefts);
+    sweep_right(&b, &n, &lefts)
 }

@@ -9,6 +9,7 @@ ghost use Rattle.bvh_boxes.specs.Boxes.{finite_box, all_at_most, inside, nowhere
 use sdf::Aabb;
 use vectors::Vec3;
 
+#[tactic(auto, unfolding(crate::specs::Boxes::finite_box))]
 pub fn finite(b: Aabb) -> bool
     ensures { result ≡ finite_box b }
 {
@@ -18,6 +19,7 @@ pub fn finite(b: Aabb) -> bool
     )
 }
 
+#[tactic(auto, unfolding(crate::specs::Boxes::all_at_most))]
 fn at_most(a: Vec3, b: Vec3) -> bool
     ensures { result ≡ all_at_most a b }
 {
@@ -32,6 +34,7 @@ pub fn inside(a: Aabb, b: Aabb) -> bool
 }
 
 // The box around nothing.
+#[tactic(auto, unfolding(vectors::specs::Vec::vsplat))]
 pub fn nowhere() -> Aabb
     ensures { result ≡ nowhere }
 {
@@ -41,6 +44,7 @@ pub fn nowhere() -> Aabb
     }
 }
 
+#[tactic(auto, unfolding(crate::specs::Boxes::merge))]
 pub fn merge(a: Aabb, b: Aabb) -> Aabb
     ensures { result ≡ merge a b }
 {

@@ -1,6 +1,7 @@
 -- Every corner of an object's box, and of a hull of such boxes, is an f32: it is a sum, a difference, a literal, or one
 -- of two that are. Assumes nothing.
 use Rattle.std.proofs.Common.{ℕ, zero, suc, ◌<◌, T, List, [], ◌∷◌, map, length, arith}
+use Rattle.std.specs.Prelude.{Option, Some, None}
 use lib.Ieee.{Float, binary32, fits}
 use lib.Ieee.Fits.{add-fits, sub-fits, neg-fits}
 use lib.Ieee.Bits.{of_bits-fits}
@@ -8,8 +9,6 @@ use Rattle.scalar.specs.F32.{f0}
 use Rattle.vectors.specs.declared.Vec3.{Vec3}
 use Rattle.vectors.specs.Vec.{vsplat, vadd, vsub, vmin, vmax}
 use Rattle.sdf.specs.declared.Aabb.{Aabb}
-use Rattle.sdf.specs.declared.Bounds.{Bounds}
-use Rattle.sdf.specs.declared.Bounds.TheVariants.{Within, Unbounded}
 use Rattle.sdf.specs.Boxes.{bounds_of, widened, box_in, box_of}
 use Rattle.refusals.specs.Ranges.{greatest}
 use Rattle.plan.specs.Plan.{Piece}
@@ -54,10 +53,10 @@ module _ (a b : Vec3) where
       }
 
 -- ---- an object's box
-in_fits : (b : Bounds) (e : Float) → FitBox (box_in b e)
+in_fits : (b : Option Aabb) (e : Float) → FitBox (box_in b e)
 unfolding widened
-in_fits (Within b) e = record { lo = vsub_fits b.lo (vsplat e); hi = vadd_fits b.hi (vsplat e) }
-in_fits Unbounded e =
+in_fits (Some b) e = record { lo = vsub_fits b.lo (vsplat e); hi = vadd_fits b.hi (vsplat e) }
+in_fits None e =
     record { lo = splat_fits f0 (of_bits-fits binary32 0); hi = splat_fits f0 (of_bits-fits binary32 0) }
 
 object_fits : (o : Piece) → FitBox (object_box o)

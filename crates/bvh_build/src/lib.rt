@@ -3,7 +3,7 @@
 
 #![tactic(auto)]
 
-ghost use Rattle.std.specs.Prelude.{◌≡◌, ◌-◌, ◌*◌, ◌<◌, ◌≤◌, length, replicate};
+ghost use Rattle.std.specs.Prelude.{◌≡◌, ◌*◌, ◌<◌, ◌≤◌, length, replicate};
 ghost use Rattle.words.specs.Lists.{list_from};
 ghost use Rattle.plan.specs.Plan.{plan_of};
 ghost use Rattle.bvh_boxes.specs.Boxes.{boxes_of};
@@ -14,17 +14,15 @@ ghost use Rattle.bvh_build.specs.Inside.Narrow.{low32};
 ghost use Rattle.bvh_build.specs.Tables.{built_of};
 ghost use Rattle.bvh_build.specs.Inside.Lays.{Lays, Room, Builds, BuildsFew, zero_box};
 
+use bvh_range::SpanTable;
 use plan::{Floats, Nodes, Order, Words};
 use sdf::Aabb;
 
-// The numbers that a word can be, and the floats of the boxes of all objects and of a span.
-const WORDS: usize = 4294967296;
+// A table of the boxes of all objects.
+type Boxes = [f32; bvh_rules::PLACES * bvh_range::BOX_FLOATS];
 
-const BOXES_FLOATS: usize = 2048;
-
-const SPAN_FLOATS: usize = 16;
-
-// The next free place, and whether no node is too deep.
+// The next free place, and whether no node is too deep. No Option: the place is told either way, and the building goes
+// on from it.
 #[derive(Clone, Copy)]
 pub struct Built {
     pub next: usize,
@@ -35,10 +33,7 @@ pub struct Built {
 pub fn narrow(x: usize) -> u32
     ensures { result ≡ low32 x }
 {
-    if x < WORDS {
-        return x as u32;
-    }
-    0
+    u32::try_from(x).unwrap_or(0)
 }
 
 fn put_node(nw: &mut Nodes, at: usize, b: Aabb, start: u32, count: u32, right: u32)
@@ -60,22 +55,13 @@ fn put_node(nw: &mut Nodes, at: usize, b: Aabb, start: u32, count: u32, right: u
     let _words: &[u32] = nw;
 }
 
-fn less(levels: usize) -> usize
-    ensures { result ≡ levels - 1 }
-{
-    if levels == 0 {
-        return 0;
-    }
-    levels - 1
-}
-
 // Builds the tree of a range from place `at` on, its first leaf starting at `start`. A range with no room leaves all as
 // it is.
 fn build_recursive(
     nw: &mut Nodes,
     os: &mut [u32],
     t: &[f32],
-    kept: &mut [f32; 16],
+    kept: &mut SpanTable,
     at: usize,
     start: usize,
     levels: usize,
@@ -102,7 +88,7 @@ fn build_recursive(
         };
     }
     let mid = bvh_split::cut(os, t, centres);
-    let below = less(levels);
+    let below = levels.saturating_sub(1);
     let left = build_recursive(nw, &mut os[..mid], t, kept, at + 1, start, below);
     put_node(nw, at, hull, 0, 0, narrow(left.next));
     let second = std::num::wrapping_add_usize(start, mid);
@@ -118,11 +104,8 @@ fn load_boxes(ws: &Words, fs: &Floats, t: &mut [f32])
     ensures { table_boxes t.new
         ≡ laid (table_boxes t.old) 0 (boxes_of (plan_of ws.now fs.now)) }
 {
-    let n = bvh_rules::object_count(ws);
-    let mut o: u32 = 0;
-    while o < n {
+    for o in 0..bvh_rules::object_count(ws) {
         bvh_range::put_box(t, o as usize, bvh_boxes::object_box(ws, fs, o));
-        o += 1;
     }
 }
 
@@ -130,14 +113,12 @@ fn load_boxes(ws: &Words, fs: &Floats, t: &mut [f32])
 fn number(os: &mut [u32])
     ensures { os.new ≡ list_from low32 0 (length os.old) }
 {
-    let mut i: usize = 0;
-    while i < os.len() {
-        os[i] = narrow(i);
-        i += 1;
+    for (i, place) in os.iter_mut().enumerate() {
+        *place = narrow(i);
     }
 }
 
-fn build_with(ws: &Words, fs: &Floats, nw: &mut Nodes, os: &mut [u32], t: &mut [f32; 2048]) -> Built
+fn build_with(ws: &Words, fs: &Floats, nw: &mut Nodes, os: &mut [u32], t: &mut Boxes) -> Built
     ensures { table_boxes t.old ≡ replicate 256 zero_box
         → length os.old ≡ length (plan_of ws.now fs.now).objects
         → 0 < length (plan_of ws.now fs.now).objects
@@ -147,7 +128,7 @@ fn build_with(ws: &Words, fs: &Floats, nw: &mut Nodes, os: &mut [u32], t: &mut [
 {
     load_boxes(ws, fs, t);
     number(os);
-    let mut kept = [0.0f32; SPAN_FLOATS];
+    let mut kept: SpanTable = [0.0; 2 * bvh_range::BOX_FLOATS];
     build_recursive(nw, os, t, &mut kept, 0, 0, bvh_rules::LEVELS)
 }
 
@@ -164,7 +145,7 @@ fn build_front(ws: &Words, fs: &Floats, nw: &mut Nodes, ow: &mut [u32], n: usize
             low: false,
         };
     }
-    let mut t = [0.0f32; BOXES_FLOATS];
+    let mut t: Boxes = [0.0; bvh_rules::PLACES * bvh_range::BOX_FLOATS];
     build_with(ws, fs, nw, &mut ow[..n], &mut t)
 }
 
@@ -177,7 +158,7 @@ pub fn build(ws: &Words, fs: &Floats, nw: &mut Nodes, ow: &mut Order) -> Built
     if n == 0 {
         return Built { next: 0, low: true };
     }
-    if n > 256 {
+    if n > bvh_rules::PLACES {
         return Built {
             next: 0,
             low: false,

@@ -1,8 +1,8 @@
-// The checker of document 01's tree rules, over the tree in a call's table.
+// The checker of the tree rules, over the tree in a call's table.
 
 #![tactic(auto)]
 
-ghost use Rattle.std.specs.Prelude.{◌≡◌, ◌-◌, length};
+ghost use Rattle.std.specs.Prelude.{◌≡◌, length};
 ghost use Rattle.plan.specs.Plan.{plan_of};
 ghost use Rattle.bvh_boxes.specs.Boxes.{boxes_of};
 ghost use Rattle.bvh_rules.specs.Nodes.{nodes_of, order_of};
@@ -14,6 +14,7 @@ use bvh_rules::{Kind, Node, Sub};
 use plan::{Floats, Words};
 use sdf::Aabb;
 
+#[tactic(auto, unfolding(bvh_rules::specs::Inside::Steps::held_at))]
 fn held(ws: &Words, fs: &Floats, b: Aabb, i: usize) -> bool
     ensures { result ≡ held_at (order_of ws.now)
         (boxes_of (plan_of ws.now fs.now)) b i }
@@ -26,31 +27,21 @@ fn holds_all(ws: &Words, fs: &Floats, b: Aabb, start: u32, count: u32) -> bool
     ensures { result ≡ holds_all (order_of ws.now)
         (boxes_of (plan_of ws.now fs.now)) b start count }
 {
-    let mut j: u32 = 0;
-    while j < count {
+    for j in 0..count {
         if !held(ws, fs, b, start as usize + j as usize) {
             return false;
         }
-        j += 1;
     }
     true
 }
 
-fn left_of(n: usize, start: usize) -> usize
-    ensures { result ≡ n - start }
-{
-    if start <= n {
-        return n - start;
-    }
-    0
-}
-
+#[tactic(auto, unfolding(bvh_rules::specs::Inside::Steps::leaf_words))]
 fn leaf_words(v: Node, n: usize, start: usize) -> bool
     ensures { result ≡ leaf_words v n start }
 {
     refusals::both(
         refusals::both(v.right == 0, v.start as usize == start),
-        refusals::both(start <= n, v.count as usize <= left_of(n, start)),
+        refusals::both(start <= n, v.count as usize <= n.saturating_sub(start)),
     )
 }
 
@@ -80,50 +71,50 @@ fn hull_ok(b: Aabb, outer: Aabb, at: usize) -> bool
     )
 }
 
-fn kind_of(ws: &Words, fs: &Floats, v: Node, outer: Aabb, at: u32, start: usize) -> Kind
+fn kind_of(ws: &Words, fs: &Floats, v: Node, outer: Aabb, at: u32, start: usize) -> Option<Kind>
     ensures { result ≡ kind_of (order_of ws.now)
         (boxes_of (plan_of ws.now fs.now)) v outer at start }
 {
     if hull_ok(v.hull, outer, at as usize) {
         if v.count == 0 {
             if v.start == 0 {
-                return Kind::Inner(at + 1, v.right);
+                return Some(Kind::Inner(at + 1, v.right));
             }
-            return Kind::Wrong;
+            return None;
         }
         if leaf_ok(ws, fs, v, start) {
-            return Kind::Leaf(at + 1, start + v.count as usize);
+            return Some(Kind::Leaf(at + 1, start + v.count as usize));
         }
-        return Kind::Wrong;
     }
-    Kind::Wrong
+    None
 }
 
 // The subtree at a place, whose first leaf must start at `start` and whose box lies within outer, with so many levels
 // left.
-fn check_sub(ws: &Words, fs: &Floats, outer: Aabb, at: u32, start: usize, level: usize) -> Sub
+fn check_sub(
+    ws: &Words,
+    fs: &Floats,
+    outer: Aabb,
+    at: u32,
+    start: usize,
+    level: usize,
+) -> Option<Sub>
     ensures { result ≡ check_of level (nodes_of ws.now) (nodes_of fs.now)
         (order_of ws.now) (boxes_of (plan_of ws.now fs.now)) outer at start }
 {
     if level == 0 {
-        return Sub::Bad;
+        return None;
     }
     let v = bvh_rules::node_at(ws, fs, at as usize);
-    let k = kind_of(ws, fs, v, outer, at, start);
+    let k = kind_of(ws, fs, v, outer, at, start)?;
     match k {
-        Kind::Wrong => Sub::Bad,
-        Kind::Leaf(next, end) => Sub::Good(next, end),
+        Kind::Leaf(next, ends) => Some(Sub { next, ends }),
         Kind::Inner(left, right) => {
-            let part = check_sub(ws, fs, v.hull, left, start, level - 1);
-            match part {
-                Sub::Bad => Sub::Bad,
-                Sub::Good(next, end) => {
-                    if right == next {
-                        check_sub(ws, fs, v.hull, next, end, level - 1)
-                    } else {
-                        Sub::Bad
-                    }
-                }
+            let part = check_sub(ws, fs, v.hull, left, start, level - 1)?;
+            if right == part.next {
+                check_sub(ws, fs, v.hull, part.next, part.ends, level - 1)
+            } else {
+                None
             }
         }
     }
@@ -137,8 +128,7 @@ fn check_order(ws: &Words, n: usize) -> bool
         return false;
     }
     let mut seen = [false; bvh_rules::PLACES];
-    let mut i: usize = 0;
-    while i < n {
+    for i in 0..n {
         let x = bvh_rules::order_at(ws, i) as usize;
         if x >= n {
             return false;
@@ -147,48 +137,37 @@ fn check_order(ws: &Words, n: usize) -> bool
             return false;
         }
         seen[x] = true;
-        i += 1;
     }
     true
 }
 
-fn whole(s: Sub, n: usize) -> Sub
+fn whole(s: Option<Sub>, n: usize) -> Option<Sub>
     ensures { result ≡ whole_of s n }
 {
-    match s {
-        Sub::Bad => Sub::Bad,
-        Sub::Good(next, end) => {
-            if end == n {
-                return Sub::Good(next, end);
-            }
-            Sub::Bad
-        }
-    }
+    let tree = s?;
+    if tree.ends == n { Some(tree) } else { None }
 }
 
 // The whole tree, with so many levels: how many nodes it has and how many objects.
-pub fn judge(ws: &Words, fs: &Floats, levels: usize) -> Sub
+pub fn judge(ws: &Words, fs: &Floats, levels: usize) -> Option<Sub>
     ensures { result ≡ judge_of levels (nodes_of ws.now) (nodes_of fs.now)
         (order_of ws.now) (boxes_of (plan_of ws.now fs.now)) }
 {
     let n = objects(ws, fs);
     if n == 0 {
-        return Sub::Good(0, 0);
+        return Some(Sub { next: 0, ends: 0 });
     }
     if check_order(ws, n) {
         let top = bvh_rules::node_at(ws, fs, 0);
         return whole(check_sub(ws, fs, top.hull, 0, 0, levels), n);
     }
-    Sub::Bad
+    None
 }
 
-pub fn is_good(s: Sub) -> bool
+pub fn is_good(s: Option<Sub>) -> bool
     ensures { result ≡ is_good s }
 {
-    match s {
-        Sub::Bad => false,
-        Sub::Good(_next, _end) => true,
-    }
+    s.is_some()
 }
 
 // What an offered tree gets that is not good with 64 levels: 6 for a rule other than depth, 7 for depth alone.
@@ -203,6 +182,7 @@ pub fn refused_number(ws: &Words, fs: &Floats) -> u32
 }
 
 // What the standing tree gets: 8 where it breaks a rule.
+#[tactic(auto, unfolding(bvh_rules::specs::Check::standing_number))]
 pub fn standing_number(ws: &Words, fs: &Floats) -> u32
     ensures { result ≡ standing_number (nodes_of ws.now) (nodes_of fs.now)
         (order_of ws.now) (boxes_of (plan_of ws.now fs.now)) }

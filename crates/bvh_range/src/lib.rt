@@ -16,6 +16,9 @@ use vectors::Vec3;
 // A box's floats in a table.
 pub const BOX_FLOATS: usize = 8;
 
+// A table of a span's two boxes.
+pub type SpanTable = [f32; 2 * BOX_FLOATS];
+
 // A leaf by its number of objects, and by the extent of their centres.
 const LEAF_MOST: usize = 4;
 
@@ -55,6 +58,7 @@ fn splat(a: f32) -> Four
     }
 }
 
+// One compare and one select, where `f32::min` tests for a NaN too: the callers' `a` is a number.
 fn lesser(a: f32, b: f32) -> f32
     ensures { result ≡ lesser_of a b }
 {
@@ -67,7 +71,8 @@ fn greater(a: f32, b: f32) -> f32
     if b >= a { b } else { a }
 }
 
-// The lower corner, for an a that is numbers: then one test a float is enough, which a NaN of b fails.
+// The lower corner, for an a that is numbers: then one test a float is enough, which a NaN of b fails. It and its twin
+// are written out float by float, from which the compiler makes one instruction for four.
 fn lower(a: Four, b: Four) -> Four
     ensures { Three (corner a) → corner result ≡ vmin (corner a) (corner b) }
 {
@@ -90,6 +95,7 @@ fn upper(a: Four, b: Four) -> Four
     }
 }
 
+#[tactic(auto, unfolding(vectors::specs::Vec::vadd, vectors::specs::Vec::vscale))]
 fn halfway(a: Four, b: Four) -> Four
     ensures { corner result ≡ vscale (vadd (corner a) (corner b)) fhalf }
 {
@@ -102,6 +108,7 @@ fn halfway(a: Four, b: Four) -> Four
 }
 
 // The least box around both, for an a whose corners are numbers.
+#[tactic(auto, unfolding(bvh_boxes::specs::Boxes::merge))]
 pub fn join(a: Row, b: Row) -> Row
     ensures { Numbers (box_of_row a) → box_of_row result ≡ merge (box_of_row a) (box_of_row b) }
 {
@@ -129,6 +136,7 @@ pub fn wider(a: Aabb, b: Aabb) -> Aabb
     }
 }
 
+#[tactic(auto, unfolding(sdf::specs::Boxes::centre_of))]
 fn middle(b: Row) -> Row
     ensures { box_of_row result ≡ point (box_of_row b) }
 {
@@ -136,6 +144,7 @@ fn middle(b: Row) -> Row
     Row { lo: c, hi: c }
 }
 
+#[tactic(auto, unfolding(vectors::specs::Vec::vsplat))]
 pub fn no_row() -> Row
     ensures { box_of_row result ≡ nowhere }
 {
@@ -195,6 +204,7 @@ pub fn box_at(t: &[f32], k: usize) -> Aabb
     box_in(row_at(t, k))
 }
 
+#[tactic(auto, unfolding(crate::specs::Inside::Table::with_row))]
 pub fn put_row(t: &mut [f32], k: usize, r: Row)
     ensures { t.new ≡ with_row t.old k r }
 {
@@ -222,6 +232,7 @@ fn spare_after(a: Vec3) -> Four
     }
 }
 
+#[tactic(auto, unfolding(crate::specs::Inside::Table::put_box))]
 pub fn put_box(t: &mut [f32], k: usize, b: Aabb)
     ensures { t.new ≡ put_box t.old k b }
 {
@@ -250,17 +261,15 @@ pub fn member(os: &[u32], t: &[f32], i: usize) -> Row
 }
 
 // What is kept in `kept` is never read: it makes the compiler hold all four floats of each row side by side.
-pub fn span_of(os: &[u32], t: &[f32], kept: &mut [f32; 16]) -> Span
+pub fn span_of(os: &[u32], t: &[f32], kept: &mut SpanTable) -> Span
     ensures { result ≡ span_of (table_boxes t.now) os.now }
 {
     let mut hull = no_row();
     let mut centres = no_row();
-    let mut i: usize = 0;
-    while i < os.len() {
-        let m = member(os, t, i);
+    for o in os {
+        let m = row_at(t, *o as usize);
         hull = join(hull, m);
         centres = join(centres, middle(m));
-        i += 1;
     }
     put_row(kept, 0, hull);
     put_row(kept, 1, centres);
@@ -270,6 +279,7 @@ pub fn span_of(os: &[u32], t: &[f32], kept: &mut [f32; 16]) -> Span
     }
 }
 
+#[tactic(auto, unfolding(crate::specs::Range::extent_of))]
 pub fn extent(c: Aabb) -> Vec3
     ensures { result ≡ extent_of c }
 {
@@ -290,6 +300,7 @@ pub fn axis_of(e: Vec3) -> u32
 }
 
 // Whether a range of n objects whose centres have the extent e is a leaf.
+#[tactic(auto, unfolding(crate::specs::Range::stops))]
 pub fn stops(n: usize, e: Vec3) -> bool
     ensures { result ≡ stops n e }
 {

@@ -9,10 +9,12 @@ ghost use Rattle.plan.specs.Plan.{plan_of};
 ghost use Rattle.bvh_boxes.specs.Boxes.{box_at, boxes_of};
 
 use plan::{Floats, Words};
+use refusals::Kind;
 use sdf::Aabb;
 use vectors::Vec3;
 
 // The box of half size h around c, widened by e.
+#[tactic(auto, unfolding(sdf::specs::Boxes::spread, sdf::specs::Boxes::widened))]
 fn spread(c: Vec3, h: Vec3, e: f32) -> Aabb
     ensures { result ≡ widened (spread c h) e }
 {
@@ -23,6 +25,7 @@ fn spread(c: Vec3, h: Vec3, e: f32) -> Aabb
 }
 
 // The box of two points, each with a radius, widened by e.
+#[tactic(auto, unfolding(sdf::specs::Boxes::around, sdf::specs::Boxes::widened))]
 fn around(a: Vec3, b: Vec3, r: f32, e: f32) -> Aabb
     ensures { result ≡ widened (around a b r) e }
 {
@@ -36,15 +39,15 @@ fn around(a: Vec3, b: Vec3, r: f32, e: f32) -> Aabb
 fn box_in(kind: u32, a: Vec3, b: Vec3, u: f32, v: f32, e: f32) -> Aabb
     ensures { result ≡ box_of (shape_of kind a b u v) e }
 {
-    match kind {
-        0 => spread(a, Vec3::splat(b.x), e),
-        1 => spread(a, b, e),
-        2 => Aabb {
+    match refusals::shape_kind(kind) {
+        Kind::Sphere => spread(a, Vec3::splat(b.x), e),
+        Kind::RoundBox => spread(a, b, e),
+        Kind::Plane => Aabb {
             lo: Vec3::splat(0.0),
             hi: Vec3::splat(0.0),
         },
-        3 => around(a, b, u, e),
-        4 => {
+        Kind::Capsule => around(a, b, u, e),
+        Kind::Torus => {
             let side = b.x + b.y;
             let half = Vec3 {
                 x: side,
@@ -53,8 +56,8 @@ fn box_in(kind: u32, a: Vec3, b: Vec3, u: f32, v: f32, e: f32) -> Aabb
             };
             spread(a, half, e)
         }
-        5 => around(a, b, u, e),
-        _ => around(a, b, scalar::max(u, v), e),
+        Kind::Cylinder => around(a, b, u, e),
+        Kind::Cone => around(a, b, scalar::max(u, v), e),
     }
 }
 

@@ -3,33 +3,40 @@
 use Prim.Native.Nat.{ℕ, zero, suc, ◌+◌, ◌≤◌, ◌<◌}
 use mathlib.Core.Path.{◌≡◌, refl, sym, ◌∙◌, ap, ap₂, subst, subst₂}
 use mathlib.Core.Logic.{◌↔◌}
-use mathlib.Core.Bool.{Bool, true, false, cond}
+use mathlib.Core.Bool.{Bool, true, false, cond, true≢false}
 use mathlib.Core.List.{List}
 use native.Mathlib.Omega.{arith}
 use lib.Dec.{T, eqb}
 use lib.ListN.{length}
 use lib.Ieee.{Float}
 use borrow.Author.Tests.{eq-eqb, eqb-true}
+use Rattle.std.specs.Prelude.{Option, Some, None, is_some}
 use Rattle.sdf.specs.declared.Aabb.{Aabb}
 use Rattle.bvh_boxes.specs.Boxes.{inside}
 use Rattle.bvh_rules.specs.declared.Node.{Node}
 use Rattle.bvh_rules.specs.declared.Kind.{Kind}
-use Rattle.bvh_rules.specs.declared.Kind.TheVariants.{Wrong, Leaf, Inner}
+use Rattle.bvh_rules.specs.declared.Kind.TheVariants.{Leaf, Inner}
 use Rattle.bvh_rules.specs.declared.Sub.{Sub}
-use Rattle.bvh_rules.specs.declared.Sub.TheVariants.{Bad, Good}
 use Rattle.bvh_rules.specs.Nodes.{node_at, inner_node, leaf_node}
 use Rattle.bvh_rules.specs.Rules.{Tree, leaf, node, hull, size, weight, depth, Stands, Boxed}
 use Rattle.bvh_rules.specs.Inside.Steps.{kind_of, then, on_kind, check_of}
-use Rattle.bvh_rules.proofs.Level.{kind_leaf, kind_inner}
+use Rattle.bvh_rules.proofs.Level.{good_sub, kind_leaf, kind_inner}
 use Rattle.bvh_rules.proofs.Trees.{stands_below}
 use Rattle.bvh_rules.proofs.Tests.{hull_to, hull_from_lem, leaf_from, kind_leaf_to, kind_inner_to}
 
-abbrev tag : Sub → ℕ
-tag Bad = 0
-tag (Good a b) = 1
+pub bad_good : (a b : ℕ) → None ≡ good_sub a b → ⊥
+bad_good a b e = true≢false (sym (ap is_some e))
 
-pub bad_good : (a b : ℕ) → Bad ≡ Good a b → ⊥
-bad_good a b e = let z : tag Bad ≡ tag (Good a b) = ap tag e in omega arith
+abbrev next_in : Option Sub → ℕ
+next_in None = 0
+next_in (Some s) = s.next
+
+abbrev ends_in : Option Sub → ℕ
+ends_in None = 0
+ends_in (Some s) = s.ends
+
+pub good_parts : (s : Sub) (a b : ℕ) → Some s ≡ good_sub a b → (s.next ≡ a) × (s.ends ≡ b)
+good_parts s a b e = (ap next_in e, ap ends_in e)
 
 module _ (w : List ℕ) (f : List Float) (o : List ℕ) (bs : List Aabb) where
   -- what a good place holds
@@ -45,13 +52,13 @@ module _ (w : List ℕ) (f : List Float) (o : List ℕ) (bs : List Aabb) where
 
   -- ---- a good place holds a tree
   module _ (level : ℕ) (outer : Aabb) (at s a b : ℕ)
-      (ih : (outer : Aabb) (at s a b : ℕ) → check_of level w f o bs outer at s ≡ Good a b
+      (ih : (outer : Aabb) (at s a b : ℕ) → check_of level w f o bs outer at s ≡ good_sub a b
       → Found level outer at s a b) where
     abbrev v : Node
     v = node_at w f at
 
     join
-        : (l r x y : ℕ) → kind_of o bs v outer at s ≡ Inner l r → Found level v.hull l s x y → r ≡ x
+        : (l r x y : ℕ) → kind_of o bs v outer at s ≡ Some (Inner l r) → Found level v.hull l s x y → r ≡ x
         → Found level v.hull x y a b → Found (suc level) outer at s a b
     join l r x y k p e q =
         let i = kind_inner_to o bs v outer at s l r k in
@@ -81,46 +88,44 @@ module _ (w : List ℕ) (f : List Float) (o : List ℕ) (bs : List Aabb) where
         }
 
     by_test
-        : (l r x y : ℕ) → kind_of o bs v outer at s ≡ Inner l r → Found level v.hull l s x y → (t : Bool)
-        → eqb r x ≡ t → cond t (check_of level w f o bs v.hull x y) Bad ≡ Good a b → Found
+        : (l r x y : ℕ) → kind_of o bs v outer at s ≡ Some (Inner l r) → Found level v.hull l s x y → (t : Bool)
+        → eqb r x ≡ t → cond t (check_of level w f o bs v.hull x y) None ≡ good_sub a b → Found
         (suc level) outer at s a b
     by_test l r x y k p true e g = join l r x y k p (eqb-true r x e) (ih v.hull x y a b g)
     by_test l r x y k p false e g = absurd (bad_good a b g)
 
     by_left
-        : (l r : ℕ) → kind_of o bs v outer at s ≡ Inner l r → (u : Sub)
+        : (l r : ℕ) → kind_of o bs v outer at s ≡ Some (Inner l r) → (u : Option Sub)
         → check_of level w f o bs v.hull l s ≡ u
-        → then u r (λ next end. check_of level w f o bs v.hull next end) ≡ Good a b → Found
+        → then u r (λ next end. check_of level w f o bs v.hull next end) ≡ good_sub a b → Found
         (suc level) outer at s a b
-    by_left l r k Bad e g = absurd (bad_good a b g)
-    by_left l r k (Good x y) e g = by_test l r x y k (ih v.hull l s x y e) (eqb r x) refl g
+    by_left l r k None e g = absurd (bad_good a b g)
+    by_left l r k (Some u) e g = by_test l r u.next u.ends k (ih v.hull l s u.next u.ends e) (eqb r u.next) refl g
 
     by_kind
-        : (k : Kind) → kind_of o bs v outer at s ≡ k
+        : (k : Option Kind) → kind_of o bs v outer at s ≡ k
         → on_kind k (λ left right. then (check_of level w f o bs v.hull left s) right
-        (λ next end. check_of level w f o bs v.hull next end)) ≡ Good a b
+        (λ next end. check_of level w f o bs v.hull next end)) ≡ good_sub a b
         → Found (suc level) outer at s a b
-    by_kind Wrong k g = absurd (bad_good a b g)
-    by_kind (Leaf x y) k g =
+    by_kind None k g = absurd (bad_good a b g)
+    by_kind (Some (Leaf x y)) k g =
         let i = kind_leaf_to o bs v outer at s x y k in
         let box = hull_to v.hull outer at i.good in
-        let g' : Good x y ≡ Good a b = g in
-        let ea : x ≡ a = cc in
-        let eb : y ≡ b = cc in
+        let q : (x ≡ a) × (y ≡ b) = good_parts (record { next = x; ends = y }) a b g in
         record {
           tree = leaf v.hull v.count;
           stands = (i.stands, i.above);
           low = omega arith;
           boxed = (box.0, i.leafs.held);
           within = box.1;
-          after = omega (arith, i.next);
-          last = omega (arith, i.last);
-          few = omega (arith, i.last, i.leafs.few);
+          after = omega (arith, i.next, q.0);
+          last = omega (arith, i.last, q.1);
+          few = omega (arith, i.last, i.leafs.few, q.1);
         }
-    by_kind (Inner l r) k g = by_left l r k (check_of level w f o bs v.hull l s) refl g
+    by_kind (Some (Inner l r)) k g = by_left l r k (check_of level w f o bs v.hull l s) refl g
 
   pub sub_to
-      : (level : ℕ) (outer : Aabb) (at s a b : ℕ) → check_of level w f o bs outer at s ≡ Good a b
+      : (level : ℕ) (outer : Aabb) (at s a b : ℕ) → check_of level w f o bs outer at s ≡ good_sub a b
       → Found level outer at s a b
   unfolding check_of
   sub_to zero outer at s a b e = absurd (bad_good a b e)
@@ -134,7 +139,7 @@ module _ (w : List ℕ) (f : List Float) (o : List ℕ) (bs : List Aabb) where
         : (level : ℕ) (outer : Aabb) (at s : ℕ) (t : Tree) → Stands w f at s t → depth t < level
         → Boxed o bs s t
         → T (inside (hull t) outer) → s + weight t ≤ length bs
-        → check_of level w f o bs outer at s ≡ Good (at + size t) (s + weight t)
+        → check_of level w f o bs outer at s ≡ good_sub (at + size t) (s + weight t)
     unfolding check_of
     sub_tree zero outer at s t h d x k g = absurd (omega arith)
     sub_tree (suc level) outer at s (leaf b c) h d x k g =
@@ -149,13 +154,13 @@ module _ (w : List ℕ) (f : List Float) (o : List ℕ) (bs : List Aabb) where
         let p = sub_tree level b (at + 1) s l h.1 (omega arith) x.2.0 x.1.0 (omega arith) in
         let q = sub_tree level b m (s + weight l) r h.2 (omega arith) x.2.1 x.1.1 (omega arith) in
         rw (h.0, sym (kind_inner o bs (inner_node b m) outer at s good refl refl), p, eq-eqb m m refl)
-        (q ∙ ap₂ Good (omega arith) (omega arith))
+        (q ∙ ap₂ good_sub (omega arith) (omega arith))
 
     pub sub_exact
         : (level : ℕ) (outer : Aabb) (at s a b : ℕ)
-        → (check_of level w f o bs outer at s ≡ Good a b) ↔ Found level outer at s a b
+        → (check_of level w f o bs outer at s ≡ good_sub a b) ↔ Found level outer at s a b
     sub_exact level outer at s a b = (
       sub_to level outer at s a b,
       λ p. sub_tree level outer at s p.tree p.stands p.low p.boxed p.within
-          (omega (arith, p.last, p.few)) ∙ ap₂ Good (sym p.after) (sym p.last),
+          (omega (arith, p.last, p.few)) ∙ ap₂ good_sub (sym p.after) (sym p.last),
     )

@@ -15,10 +15,9 @@ use lib.ListN.{length}
 use lib.Ieee.{Float}
 use Rattle.sdf.specs.declared.Aabb.{Aabb}
 use Rattle.refusals.specs.Refusals.{bad_tree, too_deep, no_tree}
-use Rattle.bvh_rules.specs.declared.Sub.TheVariants.{Good}
 use Rattle.bvh_rules.specs.Rules.{Tree, size, depth, Holds, Accepted, MeetsRules}
 use Rattle.bvh_rules.specs.Check.{judge_of, is_good, offered_number, standing_number}
-use Rattle.bvh_rules.proofs.Level.{judge_none}
+use Rattle.bvh_rules.proofs.Level.{good_sub, judge_none}
 use Rattle.bvh_rules.proofs.Trees.{weight_above, depth_weight, stands_one}
 use Rattle.bvh_rules.proofs.Root.{judge_exact, good_exact}
 
@@ -70,7 +69,7 @@ module _ (w : List ℕ) (f : List Float) (o : List ℕ) (bs : List Aabb) where
 
     -- a good answer tells how many nodes and objects the tree has
     pub tree_told
-        : (next end : ℕ) → 0 < length bs → judge_of 64 w f o bs ≡ Good next end
+        : (next end : ℕ) → 0 < length bs → judge_of 64 w f o bs ≡ good_sub next end
         → (t : Tree) × (Accepted w f o bs t × (next ≡ size t) × (end ≡ length bs))
     tree_told next end some e =
         let p = (judge_exact w f o bs lw few 64 some next end).0 e in

@@ -12,12 +12,13 @@ use denote.Floats.{passes, is_true}
 use lib.Dec.{T, eqb, ltb, leb}
 use lib.ListN.{length}
 use borrow.Author.Tests.{leb-true, eqb-true, eqb-false, lt-ltb, le-leb, eq-eqb}
+use Rattle.std.specs.Prelude.{Option, Some, None}
 use Rattle.sdf.specs.declared.Aabb.{Aabb}
 use Rattle.plan.specs.Records.{word_of}
 use Rattle.bvh_boxes.specs.Boxes.{finite_box, inside, box_at}
 use Rattle.bvh_rules.specs.declared.Node.{Node}
 use Rattle.bvh_rules.specs.declared.Kind.{Kind}
-use Rattle.bvh_rules.specs.declared.Kind.TheVariants.{Wrong, Leaf, Inner}
+use Rattle.bvh_rules.specs.declared.Kind.TheVariants.{Leaf, Inner}
 use Rattle.bvh_rules.specs.Nodes.{inner_node, leaf_node}
 use Rattle.bvh_rules.specs.Inside.Steps.{held_at, holds_all, leaf_words, leaf_ok, hull_ok, kind_of}
 use Rattle.bvh_rules.proofs.Lists.{holds_none, holds_more}
@@ -107,33 +108,33 @@ module _ (o : List ℕ) (bs : List Aabb) (v : Node) (s : ℕ) where
       )
 
 -- ---- which kind it is
-abbrev tag : Kind → ℕ
-tag Wrong = 0
-tag (Leaf a b) = 1
-tag (Inner a b) = 2
+abbrev tag : Option Kind → ℕ
+tag None = 0
+tag (Some (Leaf a b)) = 1
+tag (Some (Inner a b)) = 2
 
-apart : (a b : Kind) → a ≡ b → (tag a ≡ tag b → ⊥) → ⊥
+apart : (a b : Option Kind) → a ≡ b → (tag a ≡ tag b → ⊥) → ⊥
 apart a b e h = h (ap tag e)
 
 is_Is_leaf
     : (h z s l : Bool) (a b c d x y : ℕ)
-    → cond h (cond z (cond s (Inner a b) Wrong) (cond l (Leaf c d) Wrong)) Wrong ≡ Leaf x y
+    → cond h (cond z (cond s (Some (Inner a b)) None) (cond l (Some (Leaf c d)) None)) None ≡ Some (Leaf x y)
     → (h ≡ true) × (z ≡ false) × (l ≡ true) × (c ≡ x) × (d ≡ y)
-is_Is_leaf true true true l a b c d x y e = absurd (apart (Inner a b) (Leaf x y) e (omega arith))
-is_Is_leaf true true false l a b c d x y e = absurd (apart Wrong (Leaf x y) e (omega arith))
-is_Is_leaf true false s true a b c d x y e = let g : Leaf c d ≡ Leaf x y = e in (refl, refl, refl, cc, cc)
-is_Is_leaf true false s false a b c d x y e = absurd (apart Wrong (Leaf x y) e (omega arith))
-is_Is_leaf false z s l a b c d x y e = absurd (apart Wrong (Leaf x y) e (omega arith))
+is_Is_leaf true true true l a b c d x y e = absurd (apart (Some (Inner a b)) (Some (Leaf x y)) e (omega arith))
+is_Is_leaf true true false l a b c d x y e = absurd (apart None (Some (Leaf x y)) e (omega arith))
+is_Is_leaf true false s true a b c d x y e = let g : Some (Leaf c d) ≡ Some (Leaf x y) = e in (refl, refl, refl, cc, cc)
+is_Is_leaf true false s false a b c d x y e = absurd (apart None (Some (Leaf x y)) e (omega arith))
+is_Is_leaf false z s l a b c d x y e = absurd (apart None (Some (Leaf x y)) e (omega arith))
 
 is_inner
     : (h z s l : Bool) (a b c d x y : ℕ)
-    → cond h (cond z (cond s (Inner a b) Wrong) (cond l (Leaf c d) Wrong)) Wrong ≡ Inner x y
+    → cond h (cond z (cond s (Some (Inner a b)) None) (cond l (Some (Leaf c d)) None)) None ≡ Some (Inner x y)
     → (h ≡ true) × (z ≡ true) × (s ≡ true) × (a ≡ x) × (b ≡ y)
-is_inner true true true l a b c d x y e = let g : Inner a b ≡ Inner x y = e in (refl, refl, refl, cc, cc)
-is_inner true true false l a b c d x y e = absurd (apart Wrong (Inner x y) e (omega arith))
-is_inner true false s true a b c d x y e = absurd (apart (Leaf c d) (Inner x y) e (omega arith))
-is_inner true false s false a b c d x y e = absurd (apart Wrong (Inner x y) e (omega arith))
-is_inner false z s l a b c d x y e = absurd (apart Wrong (Inner x y) e (omega arith))
+is_inner true true true l a b c d x y e = let g : Some (Inner a b) ≡ Some (Inner x y) = e in (refl, refl, refl, cc, cc)
+is_inner true true false l a b c d x y e = absurd (apart None (Some (Inner x y)) e (omega arith))
+is_inner true false s true a b c d x y e = absurd (apart (Some (Leaf c d)) (Some (Inner x y)) e (omega arith))
+is_inner true false s false a b c d x y e = absurd (apart None (Some (Inner x y)) e (omega arith))
+is_inner false z s l a b c d x y e = absurd (apart None (Some (Inner x y)) e (omega arith))
 
 pub record KindLeaf (o : List ℕ) (bs : List Aabb) (v : Node) (outer : Aabb) (at s x y : ℕ) : Type 0 where
   pub good : hull_ok v.hull outer at ≡ true
@@ -149,7 +150,7 @@ pub record KindInner (v : Node) (outer : Aabb) (at x y : ℕ) : Type 0 where
   pub next : at + 1 ≡ x
 
 module _ (o : List ℕ) (bs : List Aabb) (v : Node) (outer : Aabb) (at s x y : ℕ) where
-  pub kind_leaf_to : kind_of o bs v outer at s ≡ Leaf x y → KindLeaf o bs v outer at s x y
+  pub kind_leaf_to : kind_of o bs v outer at s ≡ Some (Leaf x y) → KindLeaf o bs v outer at s x y
   unfolding kind_of
   kind_leaf_to e =
       let p = is_Is_leaf (hull_ok v.hull outer at) (eqb v.count 0) (eqb v.start 0) (leaf_ok o bs v s) (at + 1)
@@ -165,7 +166,7 @@ module _ (o : List ℕ) (bs : List Aabb) (v : Node) (outer : Aabb) (at s x y : �
         last = p.4;
       }
 
-  pub kind_inner_to : kind_of o bs v outer at s ≡ Inner x y → KindInner v outer at x y
+  pub kind_inner_to : kind_of o bs v outer at s ≡ Some (Inner x y) → KindInner v outer at x y
   unfolding kind_of
   kind_inner_to e =
       let p = is_inner (hull_ok v.hull outer at) (eqb v.count 0) (eqb v.start 0) (leaf_ok o bs v s) (at + 1)

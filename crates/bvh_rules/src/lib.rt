@@ -1,4 +1,4 @@
-// The tree of boxes in a call's table: its nodes and its order, as document 01's tree rules speak of them.
+// The tree of boxes in a call's table: its nodes and its order, as the tree rules speak of them.
 
 #![tactic(auto)]
 
@@ -35,16 +35,15 @@ pub struct Node {
 // What a node is: a leaf with the next place and its end, or an interior node with the places of its children.
 #[derive(Clone, Copy)]
 pub enum Kind {
-    Wrong,
     Leaf(u32, usize),
     Inner(u32, u32),
 }
 
 // A subtree: the first place after it, and where its last leaf ends.
 #[derive(Clone, Copy)]
-pub enum Sub {
-    Bad,
-    Good(u32, usize),
+pub struct Sub {
+    pub next: u32,
+    pub ends: usize,
 }
 
 // The node at a place; past the last place what no words make.

@@ -1,6 +1,6 @@
 -- A leaf's places and the loop over its objects: at its start and at a turn. By one more at the end of a list. Assumes
 -- nothing.
-use Rattle.std.proofs.Common.{◌≡◌, ℕ, ◌+◌, ◌-◌, ◌<◌, ◌≤◌, List, refl, add-one, arith}
+use Rattle.std.proofs.Common.{◌≡◌, ℕ, ◌+◌, ◌≤◌, List, refl, add-one, arith}
 use lib.Ieee.{Float}
 use Rattle.vectors.specs.declared.Vec3.{Vec3}
 use Rattle.words.specs.Lists.{list_from}
@@ -11,22 +11,9 @@ use Rattle.plan.proofs.Lists.{nearest_snoc}
 use Rattle.bvh_rules.specs.declared.Node.{Node}
 use Rattle.bvh_search.specs.Search.{piece_in, leaf_hit, places_of}
 
-module _ (v : Node) where
-  pub places_all : v.start < 256 → v.count < 256 - v.start → v.count ≡ places_of v
-  unfolding places_of
-  places_all h k = omega arith
-
-  pub places_room : 256 - v.start ≤ v.count → 256 - v.start ≡ places_of v
-  unfolding places_of
-  places_room k = omega arith
-
-  pub places_none : 256 ≤ v.start → 0 ≡ places_of v
-  unfolding places_of
-  places_none h = omega arith
-
-  pub places_few : places_of v ≤ 256
-  unfolding places_of
-  places_few = omega arith
+pub places_few : (v : Node) → places_of v ≤ 256
+unfolding places_of
+places_few v = omega arith
 
 module _ (w : List ℕ) (f : List Float) (o : List ℕ) (p : Vec3) (s : ℕ) (best : DistHit) where
   pub hit_none : best ≡ leaf_hit w f o p s 0 best

@@ -1,6 +1,6 @@
 -- A part moved with no branch: what a turn of the loop leaves, and what its end does. By the definitions, and the cases
 -- of a test. Assumes nothing.
-use Prim.Native.Nat.{ℕ, suc, ◌+◌, ◌-◌, ◌*◌, ◌/◌, ◌%◌, ◌≤◌, ◌<◌}
+use Prim.Native.Nat.{ℕ, suc, ◌+◌, ◌-◌, ◌*◌, ◌/◌, ◌%◌, ◌≤◌, ◌<◌, min}
 use mathlib.Core.Path.{◌≡◌, refl, sym, ap, ◌∙◌}
 use mathlib.Core.Bool.{Bool, true, false, cond}
 use mathlib.Core.List.{List}
@@ -19,13 +19,13 @@ use Rattle.bvh_split.specs.Part.{swapped, goes_left, Parted, part_from}
 
 -- ---- one where a bin lies below the split
 pub one_law
-    : (k s split : ℕ) → s ≤ 12 → ((i : ℕ) → i ≤ 11 → ltb i s ≡ ltb i split)
+    : (k s split : ℕ) → s ≡ min split 12
     → ((s + 15 - k % 16) / 16 ≤ 1) × (k ≤ 11 → (s + 15 - k % 16) / 16 ≡ cond (ltb k split) 1 0)
-one_law k s split h e = (omega arith, λ l. go l (ltb k s) refl)
+one_law k s split e = (omega arith, λ l. go l (ltb k split) refl)
   where
-    go : k ≤ 11 → (b : Bool) → ltb k s ≡ b → (s + 15 - k % 16) / 16 ≡ cond (ltb k split) 1 0
-    go l true p = let q = ltb-true k s p in rw (sym (e k l), p) (omega arith)
-    go l false p = let q = ltb-false k s p in rw (sym (e k l), p) (omega arith)
+    go : k ≤ 11 → (b : Bool) → ltb k split ≡ b → (s + 15 - k % 16) / 16 ≡ cond b 1 0
+    go l true p = let q = ltb-true k split p in omega arith
+    go l false p = let q = ltb-false k split p in omega arith
 
 pub times_most : (a b : ℕ) → a * (b % 2) ≤ a
 times_most a b = let h : b % 2 ≤ 1 = omega arith in omega (arith, mul-le-mul (le_refl a) h)

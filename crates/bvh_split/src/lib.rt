@@ -2,18 +2,18 @@
 
 #![tactic(auto)]
 
-ghost use Rattle.std.specs.Prelude.{◌≡◌, ℕ, ◌≤◌, ◌<◌, cond, ltb, length, get_or};
+ghost use Rattle.std.specs.Prelude.{◌≡◌, ◌≤◌, ◌<◌, cond, ltb, length, get_or};
 ghost use Rattle.bvh_boxes.specs.Boxes.{box_at};
 ghost use Rattle.bvh_range.specs.Inside.Table.{table_boxes};
 ghost use Rattle.bvh_bins.specs.Bins.{bin_of};
 ghost use Rattle.bvh_bins.specs.Inside.Places.{Noted};
 ghost use Rattle.bvh_split.specs.Part.{swapped, parted, evened, cut_of};
 
-use bvh_bins::Grid;
+use bvh_bins::{Grid, Places};
 use sdf::Aabb;
 
 // The bin of the object at a place, as noted or worked out again.
-fn place_at(places: &[u32; 256], i: usize, g: Grid, os: &[u32], t: &[f32]) -> u32
+fn place_at(places: &Places, i: usize, g: Grid, os: &[u32], t: &[f32]) -> u32
     ensures { (i < 256 → get_or places.now i 0
         ≡ bin_of g (box_at (table_boxes t.now) (get_or os.now i 0)))
         → result ≡ bin_of g (box_at (table_boxes t.now) (get_or os.now i 0)) }
@@ -24,20 +24,11 @@ fn place_at(places: &[u32; 256], i: usize, g: Grid, os: &[u32], t: &[f32]) -> u3
     bvh_bins::bin_of(g, bvh_range::box_in(bvh_range::member(os, t, i)))
 }
 
-fn at_most_all(split: u32) -> u32
-    ensures { (result ≤ 12) × ((k : ℕ) → k ≤ 11 → ltb k result ≡ ltb k split) }
-{
-    if split < 12 {
-        return split;
-    }
-    12
-}
-
 // 1 where bin k lies below the split, else 0, with no way that depends on it: which one it is cannot be foreseen.
 fn one_below(k: u32, split: u32) -> u32
     ensures { (result ≤ 1) × (k ≤ 11 → result ≡ cond (ltb k split) 1 0) }
 {
-    (at_most_all(split) + 15 - k % 16) / 16
+    (split.min(12) + 15 - k % 16) / 16
 }
 
 // i, or j for a 1, where j is not past i.
@@ -50,7 +41,9 @@ fn either_place(i: usize, j: usize, one: u32) -> usize
     i
 }
 
-// Exchanges two objects; nothing where a place is past the end.
+// Exchanges two objects; nothing where a place is past the end. A slice's own `swap` tests which place comes first,
+// which cannot be foreseen.
+#[tactic(auto, unfolding(crate::specs::Part::swapped))]
 fn swap(os: &mut [u32], i: usize, j: usize)
     ensures { os.new ≡ swapped i j os.old }
 {
@@ -65,19 +58,17 @@ fn swap(os: &mut [u32], i: usize, j: usize)
 }
 
 // Moves the objects of the bins below the split to the front, and answers how many there are.
-fn partition(os: &mut [u32], t: &[f32], g: Grid, split: u32, places: &[u32; 256]) -> usize
+fn partition(os: &mut [u32], t: &[f32], g: Grid, split: u32, places: &Places) -> usize
     ensures { Noted (table_boxes t.now) g os.old places.now
         (length os.old)
         → (result ≡ (parted (table_boxes t.now) g split os.old).mid)
         × (os.new ≡ (parted (table_boxes t.now) g split os.old).order) }
 {
-    let mut i: usize = 0;
     let mut mid: usize = 0;
-    while i < os.len() {
+    for i in 0..os.len() {
         let one = one_below(place_at(places, i, g, os, t), split);
         swap(os, i, either_place(i, mid, one));
         mid += one as usize;
-        i += 1;
     }
     mid
 }
@@ -87,23 +78,18 @@ fn partition(os: &mut [u32], t: &[f32], g: Grid, split: u32, places: &[u32; 256]
 fn evened(mid: usize, n: usize) -> usize
     ensures { result ≡ evened mid n }
 {
-    if mid == 0 {
-        return n / 2;
-    }
-    if mid == n {
-        return n / 2;
-    }
-    mid
+    if mid == 0 || mid == n { n / 2 } else { mid }
 }
 
 // Partitions a range whose centres lie in c, and answers where it is cut.
+#[tactic(auto, unfolding(crate::specs::Part::split_of, crate::specs::Part::cut_of))]
 pub fn cut(os: &mut [u32], t: &[f32], c: Aabb) -> usize
     ensures { (result ≡ (cut_of (table_boxes t.now) os.old c).mid)
         × (os.new ≡ (cut_of (table_boxes t.now) os.old c).order) }
 {
     let n = os.len();
     let g = bvh_bins::grid_of(c);
-    let mut places = [0u32; bvh_bins::PLACES];
+    let mut places: Places = [0; bvh_bins::PLACES];
     let s = bvh_bins::best_split(os, t, g, &mut places);
     let m = partition(os, t, g, s, &places);
     evened(m, n)

@@ -10,7 +10,7 @@ use Rattle.bvh_bins.proofs.sweep_right.Goals as goal
 
 pub loop-i-init : goal.loop-i-init
 loop-i-init c =
-    (search rules, λ p q. rw c.nowhere.ensures, subst Numbers (sym c.nowhere.ensures) nowhere_numbers)
+    (search rules, λ p. rw c.nowhere.ensures, subst Numbers (sym c.nowhere.ensures) nowhere_numbers)
 
 pub loop-i-preserved : goal.loop-i-preserved
 unfolding take_bin
@@ -18,8 +18,8 @@ loop-i-preserved c =
     let h = c.loop-i.invariant.2 in
     let t = c.take_bin-taken.ensures h in (
       omega arith,
-      λ p q. rw (c.choose-s.ensures, t, c.box_at.ensures)
-          (sym (sweep_more _ _ _ _ _ c.loop-i-test.true (omega arith) p q) ∙ c.loop-i.invariant.1 p q),
+      λ p. rw (c.choose-s.ensures, t, c.box_at.ensures)
+          (sym (sweep_more _ _ _ _ _ (omega arith) (omega arith) p) ∙ c.loop-i.invariant.1 p),
       subst Numbers
           (sym (ap (λ (s : Sweep). s.hull) c.choose-s.ensures ∙ choose_hull _ _ _ _ ∙ ap (λ (s : Sweep). s.hull) t))
           (merge_numbers _ _ h),
@@ -27,4 +27,4 @@ loop-i-preserved c =
 
 pub returns : goal.returns
 unfolding split_by
-returns c = λ p q. ap (λ (s : Sweep). s.split) (sym (sweep_none _ _ _ (omega arith)) ∙ c.loop-i.invariant.1 p q)
+returns c = λ p. ap (λ (s : Sweep). s.split) (sym (sweep_none _ _ _ (omega arith)) ∙ c.loop-i.invariant.1 p)

@@ -4,6 +4,7 @@ use Rattle.sdf.specs.declared.Aabb.{Aabb}
 use Rattle.bvh_boxes.specs.Boxes.{box_at}
 use Rattle.bvh_range.specs.Inside.Table.{table_boxes}
 use Rattle.bvh_range.specs.Inside.Numbers.{Numbers}
+use Rattle.bvh_bins.specs.declared.Left.{Left}
 use Rattle.bvh_bins.specs.Bins.{Bins, area, left_box, left_count}
 
 abbrev pub binned : List Float → List ℕ → Bins
@@ -17,3 +18,6 @@ left_area σ i = area (left_box σ (suc i))
 
 unfoldable pub left_through : Bins → ℕ → ℕ
 left_through σ i = left_count σ (suc i)
+
+abbrev pub left_at : Bins → ℕ → Left
+left_at σ i = record { area = left_area σ i; count = left_through σ i }

@@ -67,5 +67,5 @@ pub returns : goal.returns
 returns t c =
     lays_node _ _ _ _ _ c.span_of-s.ensures c.extent.ensures c.stops.ensures _ _ _ _ c.cut-mid.result c.cut-mid.new.os
     _ _ _ c.build_recursive-left.new.os _ _ _ _ _ c.build_recursive-right.new.os _ c.if-stops.false c.cut-mid.ensures
-    c.less-below.ensures c.build_recursive-left.ensures c.build_recursive-left.auto.os c.narrow-2.ensures
+    c.saturating_sub-below.ensures c.build_recursive-left.ensures c.build_recursive-left.auto.os c.narrow-2.ensures
     c.put_node-2.ensures c.wrapping_add_usize-second.ensures.value c.build_recursive-right.ensures c.both.ensures

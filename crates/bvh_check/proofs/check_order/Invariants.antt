@@ -1,4 +1,4 @@
--- What the loops of `bvh_check::check_order` keep, and what falls.
+-- What the loop of `bvh_check::check_order` keeps.
 use Prim.Native.Nat.{◌≤◌, ◌-◌}
 use mathlib.Core.Path.{◌≡◌}
 use Rattle.bvh_rules.specs.Nodes.{order_of}
@@ -7,7 +7,4 @@ use Rattle.bvh_check.proofs.check_order.Given as goal
 
 abbrev pub invariant-loop-i : goal.invariant-loop-i
 invariant-loop-i l =
-    (l.i ≤ l.n) × (l.n ≤ 256) × (marks_of (order_of l.ws) l.n (l.n - l.i) l.i l.seen ≡ order_ok (order_of l.ws) l.n)
-
-abbrev pub decreases-loop-i : goal.decreases-loop-i
-decreases-loop-i l = l.n - l.i
+    (l.n ≤ 256) × (marks_of (order_of l.ws) l.n (l.n - l.i) l.i l.seen ≡ order_ok (order_of l.ws) l.n)

@@ -1,5 +1,4 @@
 -- `bvh_check::holds_all` meets its contract: what was passed lies within b. Assumes nothing.
-use borrow.Author.Rules.{rules}
 use mathlib.Core.Path.{◌≡◌, sym, ◌∙◌}
 use native.Mathlib.Omega.{arith}
 use Rattle.plan.specs.Plan.{plan_of}
@@ -12,7 +11,7 @@ use Rattle.bvh_check.proofs.holds_all.Goals as goal
 pub loop-j-init : goal.loop-j-init
 loop-j-init c =
     let a = c.args in
-    (search rules, holds_none (order_of a.ws.now) (boxes_of (plan_of a.ws.now a.fs.now)) a.b a.start)
+    holds_none (order_of a.ws.now) (boxes_of (plan_of a.ws.now a.fs.now)) a.b a.start
 
 pub returns-then-not-held : goal.returns-then-not-held
 returns-then-not-held c =
@@ -20,13 +19,11 @@ returns-then-not-held c =
     sym (holds_not _ _ _ _ _ _ c.loop-j-test.true out)
 
 pub loop-j-preserved : goal.loop-j-preserved
-loop-j-preserved c = (
-  omega arith,
-  rw (holds_more, sym c.held.ensures, sym c.loop-j.invariant.1)
-      (sym c.if-not-held.false),
-)
+loop-j-preserved c =
+    rw (holds_more, sym c.held.ensures, sym c.loop-j.invariant)
+    (sym c.if-not-held.false)
 
 pub returns : goal.returns
 returns c =
     let e : c.loop-j.j ≡ c.args.count = omega arith in
-    rw (sym e) c.loop-j.invariant.1
+    rw (sym e) c.loop-j.invariant

@@ -50,12 +50,12 @@ returns-then-leaf_ok c =
     ∙ c.if-hull_ok.true)
     c.if-v-eq0.false (sym c.leaf_ok.ensures ∙ c.if-leaf_ok.true)
 
-pub returns-then-hull_ok : goal.returns-then-hull_ok
-returns-then-hull_ok c =
+pub returns-else-leaf_ok : goal.returns-else-leaf_ok
+returns-else-leaf_ok c =
     kind_no_leaf _ _ _ _ _ _
     (sym c.hull_ok.ensures
     ∙ c.if-hull_ok.true)
     c.if-v-eq0.false (sym c.leaf_ok.ensures ∙ c.if-leaf_ok.false)
 
-pub returns : goal.returns
-returns c = kind_out _ _ _ _ _ _ (sym c.hull_ok.ensures ∙ c.if-hull_ok.false)
+pub returns-else-hull_ok : goal.returns-else-hull_ok
+returns-else-hull_ok c = kind_out _ _ _ _ _ _ (sym c.hull_ok.ensures ∙ c.if-hull_ok.false)

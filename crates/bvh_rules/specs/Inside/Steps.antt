@@ -1,14 +1,13 @@
 -- How the checker walks: the nodes in pre-order with a number of levels left, and the order.
-use Rattle.std.specs.Prelude.{ℕ, zero, suc, ◌+◌, ◌-◌, Bool, true, false, cond, ◌&&◌, List, [], ◌∷◌, length, get_or, set, replicate, leb, ltb, eqb, Float}
+use Rattle.std.specs.Prelude.{ℕ, zero, suc, ◌+◌, ◌-◌, Bool, true, false, cond, ◌&&◌, Option, Some, None, List, [], ◌∷◌, length, get_or, set, replicate, leb, ltb, eqb, Float}
 use Rattle.sdf.specs.declared.Aabb.{Aabb}
 use Rattle.words.specs.Lists.{list_from}
 use Rattle.plan.specs.Records.{word_of}
 use Rattle.bvh_boxes.specs.Boxes.{finite_box, inside, box_at}
 use Rattle.bvh_rules.specs.declared.Node.{Node}
 use Rattle.bvh_rules.specs.declared.Kind.{Kind}
-use Rattle.bvh_rules.specs.declared.Kind.TheVariants.{Wrong, Leaf, Inner}
+use Rattle.bvh_rules.specs.declared.Kind.TheVariants.{Leaf, Inner}
 use Rattle.bvh_rules.specs.declared.Sub.{Sub}
-use Rattle.bvh_rules.specs.declared.Sub.TheVariants.{Bad, Good}
 use Rattle.plan.specs.Sections.{order_places}
 use Rattle.bvh_rules.specs.Nodes.{nodes_most, node_at}
 
@@ -34,28 +33,28 @@ hull_ok b outer at = ltb at nodes_most && (finite_box b && inside b outer)
 
 -- what a node is that stands at place `at` under a node whose box is outer: a leaf with the next place and its end, or
 -- an interior node with its children
-unfoldable pub kind_of : List ℕ → List Aabb → Node → Aabb → ℕ → ℕ → Kind
+unfoldable pub kind_of : List ℕ → List Aabb → Node → Aabb → ℕ → ℕ → Option Kind
 kind_of o bs v outer at start =
     cond (hull_ok v.hull outer at)
     (cond (eqb v.count 0)
-    (cond (eqb v.start 0) (Inner (at + 1) v.right) Wrong)
-    (cond (leaf_ok o bs v start) (Leaf (at + 1) (start + v.count)) Wrong))
-    Wrong
+    (cond (eqb v.start 0) (Some (Inner (at + 1) v.right)) None)
+    (cond (leaf_ok o bs v start) (Some (Leaf (at + 1) (start + v.count))) None))
+    None
 
 -- go on with the right part where the left one was good and ended where `right` says
-abbrev pub then : Sub → ℕ → (ℕ → ℕ → Sub) → Sub
-then Bad right f = Bad
-then (Good next end) right f = cond (eqb right next) (f next end) Bad
+abbrev pub then : Option Sub → ℕ → (ℕ → ℕ → Option Sub) → Option Sub
+then None right f = None
+then (Some s) right f = cond (eqb right s.next) (f s.next s.ends) None
 
-abbrev pub on_kind : Kind → (ℕ → ℕ → Sub) → Sub
-on_kind Wrong f = Bad
-on_kind (Leaf next end) f = Good next end
-on_kind (Inner left right) f = f left right
+abbrev pub on_kind : Option Kind → (ℕ → ℕ → Option Sub) → Option Sub
+on_kind None f = None
+on_kind (Some (Leaf next end)) f = Some (record { next = next; ends = end })
+on_kind (Some (Inner left right)) f = f left right
 
 -- the subtree at place `at` whose first leaf must start at `start`, with so many levels left: the first place after it
 -- and where its last leaf ends
-unfoldable pub check_of : ℕ → List ℕ → List Float → List ℕ → List Aabb → Aabb → ℕ → ℕ → Sub
-check_of zero w f o bs outer at start = Bad
+unfoldable pub check_of : ℕ → List ℕ → List Float → List ℕ → List Aabb → Aabb → ℕ → ℕ → Option Sub
+check_of zero w f o bs outer at start = None
 check_of (suc level) w f o bs outer at start =
     on_kind (kind_of o bs (node_at w f at) outer at start)
     (λ left right.
@@ -74,6 +73,6 @@ unfoldable pub order_ok : List ℕ → ℕ → Bool
 order_ok o n = cond (leb n order_places) (marks_of o n n 0 (replicate order_places false)) false
 
 -- ---- the whole tree, which must end with the last object
-abbrev pub whole_of : Sub → ℕ → Sub
-whole_of Bad n = Bad
-whole_of (Good next end) n = cond (eqb end n) (Good next end) Bad
+abbrev pub whole_of : Option Sub → ℕ → Option Sub
+whole_of None n = None
+whole_of (Some s) n = cond (eqb s.ends n) (Some s) None

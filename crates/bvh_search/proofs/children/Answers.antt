@@ -29,7 +29,7 @@ returns-then-left_first c =
       sym (c.left_first.ensures refl refl (rw el (key_plus _ _ _ _)) (rw er (key_plus _ _ _ _))),
       c.if-left_first.true,
     )
-    (rw (c.holding.ensures, c.wait.ensures.0, c.wait.ensures.1))
+    (rw (c.holding.ensures, c.wait.ensures))
 
 pub returns : goal.returns
 unfolding children_of
@@ -44,4 +44,4 @@ returns c =
       sym (c.left_first.ensures refl refl (rw el (key_plus _ _ _ _)) (rw er (key_plus _ _ _ _))),
       c.if-left_first.false,
     )
-    (rw (c.holding-2.ensures, c.wait-2.ensures.0, c.wait-2.ensures.1))
+    (rw (c.holding-2.ensures, c.wait-2.ensures))

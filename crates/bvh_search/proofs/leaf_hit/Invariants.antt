@@ -1,11 +1,8 @@
--- What the loops of `bvh_search::leaf_hit` keep, and what falls.
-use Rattle.std.proofs.Common.{◌≡◌, ◌-◌, ◌≤◌}
+-- What the loop of `bvh_search::leaf_hit` keeps.
+use Rattle.std.proofs.Common.{◌≡◌}
 use Rattle.bvh_rules.specs.Nodes.{order_of}
 use Rattle.bvh_search.specs.Search.{leaf_hit}
 use Rattle.bvh_search.proofs.leaf_hit.Given as goal
 
 abbrev pub invariant-loop-j : goal.invariant-loop-j
-invariant-loop-j l = (l.j ≤ l.c) × (l.hit ≡ leaf_hit l.ws l.fs (order_of l.ws) l.p l.s l.j l.initial.hit)
-
-abbrev pub decreases-loop-j : goal.decreases-loop-j
-decreases-loop-j l = l.c - l.j
+invariant-loop-j l = l.hit ≡ leaf_hit l.ws l.fs (order_of l.ws) l.p l.s l.j l.initial.hit

@@ -8,7 +8,7 @@ use Rattle.bvh_search.proofs.run.Given as goal
 abbrev pub invariant-loop-s : goal.invariant-loop-s
 invariant-loop-s l =
     Busy (nodes_of l.ws) (nodes_of l.fs) (order_of l.ws) l.ws l.fs l.p
-    (run_of (nodes_of l.ws) (nodes_of l.fs) (order_of l.ws) l.ws l.fs l.p nodes_most (0 ∷ []) l.initial.s.hit 0 0) l.stack l.keys l.s
+    (run_of (nodes_of l.ws) (nodes_of l.fs) (order_of l.ws) l.ws l.fs l.p nodes_most (0 ∷ []) l.initial.s.hit 0 0) l.stack l.s
 
 abbrev pub decreases-loop-s : goal.decreases-loop-s
 decreases-loop-s l = nodes_most - l.s.popped

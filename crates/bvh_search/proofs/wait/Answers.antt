@@ -4,8 +4,4 @@ use lib.Seq.{set_out}
 use Rattle.bvh_search.proofs.wait.Goals as goal
 
 pub returns : goal.returns
-returns c = let a = c.args in (
-  sym (set_out a.stack.now a.sp a.at
-      (omega arith)),
-  sym (set_out a.keys.now a.sp a.key (omega arith)),
-)
+returns c = let a = c.args in sym (set_out a.stack.now a.sp a.w (omega arith))

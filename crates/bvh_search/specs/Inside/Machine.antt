@@ -1,6 +1,6 @@
--- The search as the code holds it: the node in hand with the square of its box distance, and the others in two tables
--- of 64 places, the last on top. That it comes to `run_of` is shown in proofs/Machine.antt.
-use Rattle.std.specs.Prelude.{ℕ, ◌+◌, ◌-◌, ◌%◌, ◌^◌, cond, List, ◌==◌, nat_lt, slice_index, slice_index_or, slice_set, Float}
+-- The search as the code holds it: the node in hand with the square of its box distance, and the others with theirs in
+-- a table of 64 places, the last on top. That it comes to `run_of` is shown in proofs/Machine.antt.
+use Rattle.std.specs.Prelude.{ℕ, ◌+◌, ◌-◌, ◌%◌, ◌^◌, cond, List, ◌==◌, nat_lt, slice_index_or, slice_set, Float}
 use Rattle.std.specs.Float.{nan}
 use Rattle.root_tests.specs.Inside.Tests.{far_off, left_first, limit_of}
 use Rattle.scalar.specs.F32.{f0}
@@ -11,7 +11,10 @@ use Rattle.bvh_rules.specs.declared.Node.{Node}
 use Rattle.bvh_rules.specs.Nodes.{nodes_most, node_at}
 use Rattle.bvh_search.specs.declared.Scan.{Scan}
 use Rattle.bvh_search.specs.declared.State.{State}
+use Rattle.bvh_search.specs.declared.Standing.{Standing}
+use Rattle.bvh_search.specs.declared.Standing.TheVariants.{Ended, Full}
 use Rattle.bvh_search.specs.declared.Pair.{Pair}
+use Rattle.bvh_search.specs.declared.Waiting.{Waiting}
 use Rattle.bvh_search.specs.Search.{leaf_scan, places_of}
 
 abbrev pub box_gap : Vec3 → Aabb → Vec3  -- how far a box is off, on each axis
@@ -20,20 +23,23 @@ box_gap p b = vmax (vmax (vsub b.lo p) (vsub p b.hi)) (vsplat f0)
 unfoldable pub box_square : Vec3 → Aabb → Float  -- the square of a box distance
 box_square p b = vdot (box_gap p b) (box_gap p b)
 
-abbrev pub holding : State → ℕ → Float → ℕ → State  -- the state with the node a in hand
-holding s a key sp =
+abbrev pub nobody : Waiting  -- what stands past the stack's end
+nobody = record { at = 0; key = nan }
+
+abbrev pub holding : State → Waiting → ℕ → State  -- the state with another node in hand
+holding s x sp =
     record {
-      at = a;
-      key = key;
+      at = x.at;
+      key = x.key;
       sp = sp;
       hit = s.hit;
       lim = s.lim;
       popped = s.popped;
       evaluated = s.evaluated;
-      done = s.done;
+      standing = s.standing;
     }
 
-abbrev pub ended : State → ℕ → State
+abbrev pub ended : State → Standing → State
 ended s how =
     record {
       at = s.at;
@@ -43,7 +49,7 @@ ended s how =
       lim = s.lim;
       popped = s.popped;
       evaluated = s.evaluated;
-      done = how;
+      standing = how;
     }
 
 abbrev pub popping : State → State
@@ -56,7 +62,7 @@ popping s =
       lim = s.lim;
       popped = (s.popped + 1) % 2 ^ 32;
       evaluated = s.evaluated;
-      done = s.done;
+      standing = s.standing;
     }
 
 abbrev pub scanned : State → Scan → State
@@ -69,23 +75,21 @@ scanned s x =
       lim = limit_of x.hit.d;
       popped = s.popped;
       evaluated = (s.evaluated + x.evaluated) % 2 ^ 32;
-      done = s.done;
+      standing = s.standing;
     }
 
-unfoldable pub next_of : List ℕ → List Float → State → State  -- the next waiting node in hand, or the end
-next_of stack keys s =
-    cond (s.sp == 0) (ended s 1) (holding s (slice_index stack (s.sp - 1)) (slice_index_or keys (s.sp - 1) nan) (s.sp - 1))
+unfoldable pub next_of : List Waiting → State → State  -- the next waiting node in hand, or the end
+next_of stack s = cond (s.sp == 0) (ended s Ended) (holding s (slice_index_or stack (s.sp - 1) nobody) (s.sp - 1))
 
 pub record Tables : Type 0 where
-  pub stack : List ℕ
-  pub keys : List Float
+  pub stack : List Waiting
   pub state : State
 
-abbrev pub tables : List ℕ → List Float → State → Tables
-tables stack keys s = record { stack = stack; keys = keys; state = s }
+abbrev pub tables : List Waiting → State → Tables
+tables stack s = record { stack = stack; state = s }
 
-abbrev pub two_of : List ℕ → List Float → State → ℕ → Float → ℕ → Float → Tables  -- a and its key waiting, b in hand
-two_of stack keys s a ka b kb = tables (slice_set stack s.sp a) (slice_set keys s.sp ka) (holding s b kb (s.sp + 1))
+abbrev pub two_of : List Waiting → State → Waiting → Waiting → Tables  -- a waiting, b in hand
+two_of stack s a b = tables (slice_set stack s.sp a) (holding s b (s.sp + 1))
 
 unfoldable pub square_at : List ℕ → List Float → Vec3 → ℕ → Float
 square_at nw nf p a = box_square p (node_at nw nf a).hull
@@ -93,28 +97,31 @@ square_at nw nf p a = box_square p (node_at nw nf a).hull
 abbrev pub squares_at : List ℕ → List Float → Vec3 → ℕ → ℕ → Pair
 squares_at nw nf p a b = record { l = square_at nw nf p a; r = square_at nw nf p b }
 
--- two children: the farther one waits
-unfoldable pub children_of : List ℕ → List Float → Vec3 → List ℕ → List Float → State → ℕ → ℕ → Tables
-children_of nw nf p stack keys s l r =
-    cond (nat_lt 62 s.sp) (tables stack keys (ended s 2))
-    (cond (left_first (square_at nw nf p l) (square_at nw nf p r))
-    (two_of stack keys s r (square_at nw nf p r) l (square_at nw nf p l))
-    (two_of stack keys s l (square_at nw nf p l) r (square_at nw nf p r)))
+abbrev pub keyed : List ℕ → List Float → Vec3 → ℕ → Waiting  -- the node a with its key
+keyed nw nf p a = record { at = a; key = square_at nw nf p a }
 
-unfoldable pub scanned_of : List ℕ → List ℕ → List Float → Vec3 → List ℕ → List Float → State → Node → State
-scanned_of o w f p stack keys s v = next_of stack keys (scanned s (leaf_scan w f o p v.start (places_of v) s.hit))
+-- two children: the farther one waits
+unfoldable pub children_of : List ℕ → List Float → Vec3 → List Waiting → State → ℕ → ℕ → Tables
+children_of nw nf p stack s l r =
+    cond (nat_lt 62 s.sp) (tables stack (ended s Full))
+    (cond (left_first (square_at nw nf p l) (square_at nw nf p r))
+    (two_of stack s (keyed nw nf p r) (keyed nw nf p l))
+    (two_of stack s (keyed nw nf p l) (keyed nw nf p r)))
+
+unfoldable pub scanned_of : List ℕ → List ℕ → List Float → Vec3 → List Waiting → State → Node → State
+scanned_of o w f p stack s v = next_of stack (scanned s (leaf_scan w f o p v.start (places_of v) s.hit))
 
 module _ (nw : List ℕ) (nf : List Float) (o : List ℕ) (w : List ℕ) (f : List Float) (p : Vec3) where
-  unfoldable pub opened_of : List ℕ → List Float → State → Node → Tables  -- the node in hand, near enough
-  opened_of stack keys s v =
+  unfoldable pub opened_of : List Waiting → State → Node → Tables  -- the node in hand, near enough
+  opened_of stack s v =
       cond (nat_lt s.at nodes_most)
       (cond (v.count == 0)
-      (children_of nw nf p stack keys s (s.at + 1) v.right)
-      (tables stack keys (scanned_of o w f p stack keys s v)))
-      (tables stack keys (next_of stack keys s))
+      (children_of nw nf p stack s (s.at + 1) v.right)
+      (tables stack (scanned_of o w f p stack s v)))
+      (tables stack (next_of stack s))
 
-  unfoldable pub step_of : List ℕ → List Float → State → Tables  -- one pop
-  step_of stack keys s =
+  unfoldable pub step_of : List Waiting → State → Tables  -- one pop
+  step_of stack s =
       cond (far_off s.key s.hit.d)
-      (tables stack keys (next_of stack keys (popping s)))
-      (opened_of stack keys (popping s) (node_at nw nf s.at))
+      (tables stack (next_of stack (popping s)))
+      (opened_of stack (popping s) (node_at nw nf s.at))

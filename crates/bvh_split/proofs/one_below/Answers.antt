@@ -3,4 +3,4 @@ use Rattle.bvh_split.proofs.Placed.{one_law}
 use Rattle.bvh_split.proofs.one_below.Goals as goal
 
 pub returns : goal.returns
-returns c = one_law _ _ _ c.at_most_all.ensures.0 c.at_most_all.ensures.1
+returns c = one_law _ _ _ c.min.ensures

@@ -17,20 +17,14 @@ use Rattle.bvh_split.proofs.partition.Goals as goal
 
 pub loop-i-init : goal.loop-i-init
 unfolding parted
-loop-i-init c = (search rules, search rules, refl, λ j h. refl, λ _. simp sub-zero)
+loop-i-init c = (search rules, refl, λ j h. refl, λ _. simp sub-zero)
 
 pub overflow_add-mid : goal.overflow_add-mid
 overflow_add-mid c =
     let g = c.well_formed in
     let h = c.loop-i-test.true in
-    let k = c.loop-i.invariant.1 in
+    let k = c.loop-i.invariant.0 in
     let e = c.one_below-one.ensures.0 in
-    search rules
-
-pub overflow_add-i : goal.overflow_add-i
-overflow_add-i c =
-    let g = c.well_formed in
-    let h = c.loop-i-test.true in
     search rules
 
 pub loop-i-preserved : goal.loop-i-preserved
@@ -39,20 +33,19 @@ loop-i-preserved c =
     let a = c.args in
     let w = c.swap.ensures in
     let f = c.either_place.ensures in (
-      omega arith,
       omega (arith, c.one_below-one.ensures.0),
-      ap length w ∙ length_swapped _ _ _ ∙ L.invariant.2,
+      ap length w ∙ length_swapped _ _ _ ∙ L.invariant.1,
       λ j h. ap (λ (x : List ℕ). get_or x j 0) w ∙ swapped_past L.i _ j L.os (omega arith) (omega (arith, f.0)) ∙
-          L.invariant.3 j (omega arith),
+          L.invariant.2 j (omega arith),
       λ n. part_by (table_boxes a.t.now) a.g a.split (length a.os.now) L.i L.mid _ _ _ _ L.os _ _
           (omega (arith, c.loop-i-test.true))
           (c.place_at.ensures (λ l. n L.i (omega (arith, c.loop-i-test.true)) l ∙ ap
-          (λ (x : ℕ). bin_of a.g (box_at (table_boxes a.t.now) x)) (sym (L.invariant.3 L.i (le_refl L.i)))))
-          c.one_below-one.ensures.1 f.1 (f.2 L.invariant.1) w refl (L.invariant.4 n),
+          (λ (x : ℕ). bin_of a.g (box_at (table_boxes a.t.now) x)) (sym (L.invariant.2 L.i (le_refl L.i)))))
+          c.one_below-one.ensures.1 f.1 (f.2 L.invariant.0) w refl (L.invariant.3 n),
     )
 
 pub shape_of-os : goal.shape_of-os
-shape_of-os c = c.loop-i.invariant.2
+shape_of-os c = c.loop-i.invariant.1
 
 pub returns : goal.returns
-returns c = λ n. part_none _ _ _ _ _ _ _ _ (omega (arith, c.loop-i-test.false)) (c.loop-i.invariant.4 n)
+returns c = λ n. part_none _ _ _ _ _ _ _ _ (omega (arith, c.loop-i-test.false)) (c.loop-i.invariant.3 n)

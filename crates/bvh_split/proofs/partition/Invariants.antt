@@ -1,4 +1,4 @@
--- What the loops of `bvh_split::partition` keep, and what falls.
+-- What the loop of `bvh_split::partition` keeps.
 use Prim.Native.Nat.{ℕ, ◌≤◌, ◌-◌}
 use mathlib.Core.Path.{◌≡◌}
 use lib.ListN.{length, get_or}
@@ -9,10 +9,7 @@ use Rattle.bvh_split.proofs.partition.Given as goal
 
 abbrev pub invariant-loop-i : goal.invariant-loop-i
 invariant-loop-i l =
-    (l.i ≤ length l.initial.os) × (l.mid ≤ l.i) × (length l.os ≡ length l.initial.os) ×
+    (l.mid ≤ l.i) × (length l.os ≡ length l.initial.os) ×
     ((j : ℕ) → l.i ≤ j → get_or l.os j 0 ≡ get_or l.initial.os j 0) ×
     (Noted (table_boxes l.t) l.g l.initial.os l.places (length l.initial.os)
     → part_from (table_boxes l.t) l.g l.split (length l.initial.os - l.i) l.i l.mid l.os ≡ parted (table_boxes l.t) l.g l.split l.initial.os)
-
-abbrev pub decreases-loop-i : goal.decreases-loop-i
-decreases-loop-i l = length l.initial.os - l.i
