@@ -20,7 +20,8 @@ abbrev pub arg_float : List Float → ℕ → Float
 arg_float f k = float_of f (16 * args_row + k)
 
 unfoldable pub tree_number : ℕ → List ℕ → List Float → ℕ  -- of the standing tree, where it is used: `tree` is 1
-tree_number tree w f = cond (eqb tree 1) (standing_number (nodes_of w) (nodes_of f) (order_of w) (boxes_of (plan_of w f))) 0
+tree_number tree w f =
+    cond (eqb tree 1) (standing_number (nodes_of w) (nodes_of f) (order_of w) (boxes_of (plan_of w f))) 0
 
 unfoldable pub query_number : ℕ → List ℕ → List Float → ℕ  -- a query: its bound is any finite number
 query_number before w f =

@@ -5,6 +5,7 @@ use mathlib.Core.Path.{◌≡◌, refl}
 use mathlib.Core.Bool.{true, and-eq-true_iff}
 use mathlib.Core.List.{List, [], ◌∷◌, ◌++◌}
 use native.Mathlib.Numerals.{add-one}
+use Rattle.std.specs.Prelude.{Option, None}
 use native.Mathlib.Omega.{arith}
 use lib.Dec.{leb, eqb}
 use lib.Ieee.{Float}
@@ -17,7 +18,6 @@ use Rattle.words.specs.Lists.{list_from}
 use Rattle.words.proofs.Runs.{from_snoc}
 use Rattle.plan.specs.declared.QuadLight.{QuadLight}
 use Rattle.emitter.specs.declared.Emitted.{Emitted}
-use Rattle.emitter.specs.declared.Emitted.TheVariants.{Nothing}
 use Rattle.emitter.specs.Emitter.{emitter_step, emitter_from, emitter_of}
 use Rattle.bemitondry_emitter.specs.Emitter.{records_ok, lent_light}
 
@@ -30,13 +30,13 @@ records_fit n e =
 
 module _ (ro rd : Vec3) (tmax : Float) where
   emitter_snoc
-      : (best : Emitted) (ls : List QuadLight) (l : QuadLight)
+      : (best : Option Emitted) (ls : List QuadLight) (l : QuadLight)
       → emitter_from ro rd tmax best (ls ++ (l ∷ [])) ≡ emitter_step ro rd tmax (emitter_from ro rd tmax best ls) l
   unfolding emitter_from
   emitter_snoc best [] l = refl
   emitter_snoc best (k ∷ ls) l = emitter_snoc (emitter_step ro rd tmax best k) ls l
 
-  pub emitter_none : (b : List ℕ) → emitter_of (list_from (lent_light b) 0 0) ro rd tmax ≡ Nothing
+  pub emitter_none : (b : List ℕ) → emitter_of (list_from (lent_light b) 0 0) ro rd tmax ≡ None
   unfolding emitter_of emitter_from list_from
   emitter_none b = refl
 

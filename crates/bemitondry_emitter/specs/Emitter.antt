@@ -2,6 +2,7 @@
 -- 16, or a length that is no whole number of records, gets 2 and no record is judged; else each is tested as on entry
 -- (1, 4)."
 use Rattle.std.specs.Prelude.{ℕ, ◌+◌, ◌*◌, ◌/◌, ◌%◌, Bool, cond, ◌&&◌, List, length, leb, eqb, Float}
+use Rattle.std.specs.Prelude.{Option, Some, None}
 use Rattle.vectors.specs.declared.Vec3.{Vec3}
 use Rattle.words.specs.Lists.{list_from}
 use Rattle.refusals.specs.Refusals.{bad_number, no_room, unless, lower, lowest_of}
@@ -9,7 +10,6 @@ use Rattle.refusals.specs.Ranges.{farther, steep, longest, up_to, within}
 use Rattle.plan.specs.declared.QuadLight.{QuadLight}
 use Rattle.record_test.specs.Numbers.{light_number}
 use Rattle.emitter.specs.declared.Emitted.{Emitted}
-use Rattle.emitter.specs.declared.Emitted.TheVariants.{Nothing, Shows}
 use Rattle.emitter.specs.Emitter.{emitter_of}
 use Rattle.reply.specs.declared.Reply.{Reply}
 use Rattle.reply.specs.Reply.{bits, done_reply, reply_of}
@@ -43,9 +43,9 @@ emitter_number before b ro rd tmax =
     (lower (lower (unless no_room (records_ok (length b))) (unless bad_number (aim_ok ro rd tmax)))
     (lowest_of light_number (lent_lights b)))
 
-unfoldable pub emitted_reply : Emitted → Reply  -- "hit (1 or 0), t, emission x y z"
-emitted_reply Nothing = done_reply 0 0 0 0 0 0 0 0
-emitted_reply (Shows t emit) = done_reply 1 (bits t) (bits emit.x) (bits emit.y) (bits emit.z) 0 0 0
+unfoldable pub emitted_reply : Option Emitted → Reply  -- "hit (1 or 0), t, emission x y z"
+emitted_reply None = done_reply 0 0 0 0 0 0 0 0
+emitted_reply (Some e) = done_reply 1 (bits e.t) (bits e.emit.x) (bits e.emit.y) (bits e.emit.z) 0 0 0
 
 unfoldable pub emitter_reply : ℕ → List ℕ → Vec3 → Vec3 → Float → Reply
 emitter_reply before b ro rd tmax =

@@ -10,21 +10,19 @@ ghost use Rattle.record_test.specs.Numbers.{light_number};
 ghost use Rattle.wire.specs.Lent.{given_vec};
 ghost use Rattle.emitter.specs.Emitter.{emitter_of};
 ghost use Rattle.bemitondry_emitter.specs.Emitter.{records_ok, records_in, lent_light, aim_ok, emitted_reply};
-ghost use Rattle.bemitondry_emitter.specs.Emitter.{emitter_reply};
+ghost use Rattle.bemitondry_emitter.specs.Emitter.{emitter_number, emitter_reply};
 
-use emitter::Emitted;
+use emitter::{Aim, Emitted};
 use plan::QuadLight;
 use reply::Reply;
 use vectors::Vec3;
 
 // Whether so many bytes are whole records, and no more than a plan may have.
+#[tactic(auto, unfolding(crate::specs::Emitter::records_ok))]
 fn records_ok(bytes: usize) -> bool
     ensures { result ≡ records_ok bytes }
 {
-    if bytes % 60 == 0 {
-        return bytes <= 960;
-    }
-    false
+    bytes % 60 == 0 && bytes <= 960
 }
 
 // How many records are gone through: none where they are too many or not whole.
@@ -32,12 +30,14 @@ fn records_in(bytes: usize) -> u32
     ensures { result ≡ records_in bytes }
 {
     if records_ok(bytes) {
-        return (bytes / 60) as u32;
+        (bytes / 60) as u32
+    } else {
+        0
     }
-    0
 }
 
-// Three floats from word k of record i on.
+// Three floats from word k of record i on. Not by `wire::vec_at`: the place of any record i fits a usize, and no u32.
+#[tactic(auto, unfolding(wire::specs::Lent::given_vec))]
 fn vec_in(b: &[u8], i: u32, k: u32) -> Vec3
     ensures { result ≡ given_vec b.now (15 * i + k) }
 {
@@ -49,6 +49,7 @@ fn vec_in(b: &[u8], i: u32, k: u32) -> Vec3
     }
 }
 
+#[tactic(auto, unfolding(crate::specs::Emitter::lent_light))]
 fn light_in(b: &[u8], i: u32) -> QuadLight
     ensures { result ≡ lent_light b.now i }
 {
@@ -65,70 +66,70 @@ fn light_in(b: &[u8], i: u32) -> QuadLight
 fn lights_number(b: &[u8], n: u32) -> u32
     ensures { result ≡ lowest_of light_number (list_from (lent_light b.now) 0 n) }
 {
-    let mut least: u32 = 0;
-    let mut i: u32 = 0;
-    while i < n {
-        least = refusals::lower(least, record_test::light_number(light_in(b, i)));
-        i += 1;
-    }
-    least
+    refusals::lowest_number(n, |i| record_test::light_number(light_in(b, i)))
 }
 
 // The first n records.
-fn emitter_in(b: &[u8], n: u32, ro: Vec3, rd: Vec3, tmax: f32) -> Emitted
-    ensures { result ≡ emitter_of (list_from (lent_light b.now) 0 n) ro rd tmax }
+fn emitter_in(b: &[u8], n: u32, aim: Aim) -> Option<Emitted>
+    ensures { result ≡ emitter_of (list_from (lent_light b.now) 0 n) aim.ro aim.rd aim.tmax }
 {
-    let mut best = Emitted::Nothing;
-    let mut i: u32 = 0;
-    while i < n {
-        best = emitter::emitter_step(best, light_in(b, i), ro, rd, tmax);
-        i += 1;
+    let mut best = None;
+    for i in 0..n {
+        best = emitter::emitter_step(best, light_in(b, i), aim);
     }
     best
 }
 
-pub fn aim_ok(ro: Vec3, rd: Vec3, tmax: f32) -> bool
-    ensures { result ≡ aim_ok ro rd tmax }
+#[tactic(auto, unfolding(crate::specs::Emitter::aim_ok))]
+pub fn aim_ok(aim: Aim) -> bool
+    ensures { result ≡ aim_ok aim.ro aim.rd aim.tmax }
 {
-    refusals::both(
-        refusals::within(ro, refusals::FARTHER),
-        refusals::both(
-            refusals::within(rd, refusals::STEEP),
-            refusals::up_to(tmax, refusals::LONGEST),
-        ),
-    )
+    refusals::within(aim.ro, refusals::FARTHER)
+        && refusals::within(aim.rd, refusals::STEEP)
+        && refusals::up_to(aim.tmax, refusals::LONGEST)
 }
 
 // Whether a panel shows, where on the ray, and its emission.
-pub fn emitted_reply(e: Emitted) -> Reply
+#[tactic(auto, unfolding(crate::specs::Emitter::emitted_reply))]
+pub fn emitted_reply(e: Option<Emitted>) -> Reply
     ensures { result ≡ emitted_reply e }
 {
     match e {
-        Emitted::Nothing => reply::done(0, 0, 0, 0, 0, 0, 0, 0),
-        Emitted::Shows(t, emit) => reply::done(
+        Some(e) => reply::done(
             1,
-            scalar::bits(t),
-            scalar::bits(emit.x),
-            scalar::bits(emit.y),
-            scalar::bits(emit.z),
+            scalar::bits(e.t),
+            scalar::bits(e.emit.x),
+            scalar::bits(e.emit.y),
+            scalar::bits(e.emit.z),
             0,
             0,
             0,
         ),
+        None => reply::done(0, 0, 0, 0, 0, 0, 0, 0),
     }
 }
 
+// What the call gets: by the bytes' length and the ray, then by the records.
+#[tactic(auto, unfolding(crate::specs::Emitter::emitter_number))]
+fn emitter_number(before: u32, lights: &[u8], aim: Aim) -> u32
+    ensures { result ≡ emitter_number before lights.now aim.ro aim.rd aim.tmax }
+{
+    let given = refusals::lower(
+        refusals::unless(refusals::NO_ROOM, records_ok(lights.len())),
+        refusals::unless(refusals::BAD_NUMBER, aim_ok(aim)),
+    );
+    let own = lights_number(lights, records_in(lights.len()));
+    refusals::lower(before, refusals::lower(given, own))
+}
+
+#[tactic(auto, unfolding(crate::specs::Emitter::emitter_reply, reply::specs::Reply::reply_of))]
 pub fn emitter_hit(before: u32, lights: &[u8], ro: Vec3, rd: Vec3, tmax: f32) -> Reply
     ensures { result ≡ emitter_reply before lights.now ro rd tmax }
 {
-    let k = records_in(lights.len());
-    let given = refusals::lower(
-        refusals::unless(refusals::NO_ROOM, records_ok(lights.len())),
-        refusals::unless(refusals::BAD_NUMBER, aim_ok(ro, rd, tmax)),
-    );
-    let n = refusals::lower(before, refusals::lower(given, lights_number(lights, k)));
+    let aim = Aim { ro, rd, tmax };
+    let n = emitter_number(before, lights, aim);
     if n == 0 {
-        return emitted_reply(emitter_in(lights, k, ro, rd, tmax));
+        return emitted_reply(emitter_in(lights, records_in(lights.len()), aim));
     }
     reply::refused(n)
 }

@@ -1,5 +1,5 @@
 // The public calls of direct light on a loaded table, by the tree or by the list. `before` is a number that applies
-// already; `ws` and `fs` are a call's table.
+// already; `ws` and `fs` are a call's table; `tree` is a number, as callers have it.
 
 #![tactic(auto)]
 
@@ -11,16 +11,15 @@ use reply::Reply;
 use shade::Lit;
 use vectors::Vec3;
 
+#[tactic(auto, unfolding(crate::specs::Light::site_ok))]
 fn site_ok(p: Vec3, n: Vec3) -> bool
     ensures { result ≡ site_ok p n }
 {
-    refusals::both(
-        refusals::within(p, refusals::FAR),
-        refusals::within(n, refusals::STEEP),
-    )
+    refusals::within(p, refusals::FAR) && refusals::within(n, refusals::STEEP)
 }
 
 // What a call gets: `given` by its arguments, then by the plan with its lights, by the tree, and by lights at p.
+#[tactic(auto, unfolding(crate::specs::Light::lit_ask))]
 fn lit_ask(before: u32, given: u32, tree: u32, p: Vec3, ws: &Words, fs: &Floats) -> u32
     ensures { result ≡ lit_ask before given tree p ws.now fs.now }
 {
@@ -35,14 +34,14 @@ fn lit_ask(before: u32, given: u32, tree: u32, p: Vec3, ws: &Words, fs: &Floats)
 }
 
 // The light sent back, and the evaluations made.
+#[tactic(auto, unfolding(crate::specs::Light::lit_reply))]
 fn lit_reply(l: Lit) -> Reply
     ensures { result ≡ lit_reply l }
 {
-    let light = l.light;
     reply::done(
-        scalar::bits(light.x),
-        scalar::bits(light.y),
-        scalar::bits(light.z),
+        scalar::bits(l.light.x),
+        scalar::bits(l.light.y),
+        scalar::bits(l.light.z),
         l.count,
         0,
         0,
@@ -52,18 +51,19 @@ fn lit_reply(l: Lit) -> Reply
 }
 
 // The light that a surface sends toward a view.
+#[tactic(auto, unfolding(crate::specs::Light::direct_reply, reply::specs::Reply::reply_of))]
 pub fn direct(before: u32, tree: u32, ws: &Words, fs: &Floats) -> Reply
     ensures { result ≡ direct_reply before tree ws.now fs.now }
 {
-    let p = plan::vec_at(fs, plan::ARGS_ROW as usize, 0);
-    let n = plan::vec_at(fs, plan::ARGS_ROW as usize, 3);
-    let v = plan::vec_at(fs, plan::ARGS_ROW as usize, 6);
+    let p = ask_test::arg_vec(fs, 0);
+    let n = ask_test::arg_vec(fs, 3);
+    let v = ask_test::arg_vec(fs, 6);
     let m = Material {
-        albedo: plan::vec_at(fs, plan::ARGS_ROW as usize, 9),
+        albedo: ask_test::arg_vec(fs, 9),
         roughness: fs[plan::ARGS + 12],
         metallic: fs[plan::ARGS + 13],
     };
-    let sited = refusals::both(site_ok(p, n), refusals::within(v, refusals::STEEP));
+    let sited = site_ok(p, n) && refusals::within(v, refusals::STEEP);
     let given = refusals::lower(
         refusals::unless(refusals::BAD_NUMBER, sited),
         record_test::material_number(m),
@@ -76,13 +76,14 @@ pub fn direct(before: u32, tree: u32, ws: &Words, fs: &Floats) -> Reply
 }
 
 // The light that a matt surface sends back.
+#[tactic(auto, unfolding(crate::specs::Light::direct_diffuse_reply, reply::specs::Reply::reply_of))]
 pub fn direct_diffuse(before: u32, tree: u32, ws: &Words, fs: &Floats) -> Reply
     ensures { result ≡ direct_diffuse_reply before tree ws.now fs.now }
 {
-    let p = plan::vec_at(fs, plan::ARGS_ROW as usize, 0);
-    let n = plan::vec_at(fs, plan::ARGS_ROW as usize, 3);
-    let albedo = plan::vec_at(fs, plan::ARGS_ROW as usize, 6);
-    let sited = refusals::both(site_ok(p, n), refusals::within_up_to(albedo, 1.0));
+    let p = ask_test::arg_vec(fs, 0);
+    let n = ask_test::arg_vec(fs, 3);
+    let albedo = ask_test::arg_vec(fs, 6);
+    let sited = site_ok(p, n) && refusals::within_up_to(albedo, 1.0);
     let number = lit_ask(
         before,
         refusals::unless(refusals::BAD_NUMBER, sited),

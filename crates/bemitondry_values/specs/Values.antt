@@ -1,5 +1,5 @@
 -- What each public call on single values replies. before is a number that applies already.
-use Rattle.std.specs.Prelude.{ℕ, Float}
+use Rattle.std.specs.Prelude.{ℕ, Option, Some, None, Float}
 use Rattle.root.specs.Root.{root_of}
 use Rattle.scalar.specs.F32.{f1}
 use Rattle.scalar.specs.Ranges.{magnitude}
@@ -7,8 +7,6 @@ use Rattle.scalar.specs.Acos.{acos_of}
 use Rattle.vectors.specs.declared.Vec3.{Vec3}
 use Rattle.sdf.specs.declared.Shape.{Shape}
 use Rattle.sdf.specs.declared.Aabb.{Aabb}
-use Rattle.sdf.specs.declared.Bounds.{Bounds}
-use Rattle.sdf.specs.declared.Bounds.TheVariants.{Within, Unbounded}
 use Rattle.sdf.specs.Shapes.{dist_of}
 use Rattle.sdf.specs.Boxes.{bounds_of}
 use Rattle.refusals.specs.Refusals.{bad_number, wrong_list, unless, lower}
@@ -25,9 +23,9 @@ box_words b =
     done_reply (bits b.lo.x) (bits b.lo.y) (bits b.lo.z)
     (bits b.hi.x) (bits b.hi.y) (bits b.hi.z) 0 0
 
-unfoldable pub box_reply : ℕ → Bounds → Reply  -- a plane has no box, and gets 5
-box_reply n (Within b) = reply_of n (box_words b)
-box_reply n Unbounded = refused_reply (lower n wrong_list)
+unfoldable pub box_reply : ℕ → Option Aabb → Reply  -- a plane has no box, and gets 5
+box_reply n (Some b) = reply_of n (box_words b)
+box_reply n None = refused_reply (lower n wrong_list)
 
 unfoldable pub root_reply : ℕ → Float → Reply  -- "Root takes 0 to `f32::MAX`"
 root_reply before x = float_reply (lower before (unless bad_number (up_to x greatest))) (root_of x)

@@ -1,5 +1,6 @@
 // The public calls on single values: each tests what it is given, and replies. `before` is a number that applies
-// already.
+// already. No two of them are one function with a closure: what they share is one line, and the closure would be as
+// long.
 
 #![tactic(auto)]
 
@@ -13,44 +14,42 @@ ghost use Rattle.bemitondry_values.specs.Light.{diffuse_albedo_reply};
 use plan::Material;
 use quad::Quad;
 use reply::Reply;
-use sdf::Bounds;
+use sdf::Aabb;
 use vectors::Vec3;
 
 // A float, where the number is 0.
+#[tactic(auto, unfolding(crate::specs::Values::float_reply))]
 fn float_reply(n: u32, x: f32) -> Reply
     ensures { result ≡ float_reply n x }
 {
-    if n == 0 {
-        return reply::done(scalar::bits(x), 0, 0, 0, 0, 0, 0, 0);
-    }
-    reply::refused(n)
+    reply::reply_of(n, reply::done(scalar::bits(x), 0, 0, 0, 0, 0, 0, 0))
 }
 
 // A box, where the number is 0. A plane has none.
-fn box_reply(n: u32, b: Bounds) -> Reply
+#[tactic(auto, unfolding(crate::specs::Values::box_reply))]
+fn box_reply(n: u32, b: Option<Aabb>) -> Reply
     ensures { result ≡ box_reply n b }
 {
     match b {
-        Bounds::Within(b) => {
-            if n == 0 {
-                return reply::done(
-                    scalar::bits(b.lo.x),
-                    scalar::bits(b.lo.y),
-                    scalar::bits(b.lo.z),
-                    scalar::bits(b.hi.x),
-                    scalar::bits(b.hi.y),
-                    scalar::bits(b.hi.z),
-                    0,
-                    0,
-                );
-            }
-            reply::refused(n)
-        }
-        Bounds::Unbounded => reply::refused(refusals::lower(n, refusals::WRONG_LIST)),
+        Some(b) => reply::reply_of(
+            n,
+            reply::done(
+                scalar::bits(b.lo.x),
+                scalar::bits(b.lo.y),
+                scalar::bits(b.lo.z),
+                scalar::bits(b.hi.x),
+                scalar::bits(b.hi.y),
+                scalar::bits(b.hi.z),
+                0,
+                0,
+            ),
+        ),
+        None => reply::refused(refusals::lower(n, refusals::WRONG_LIST)),
     }
 }
 
 // The square root, from 0 to f32::MAX.
+#[tactic(auto, unfolding(crate::specs::Values::root_reply))]
 pub fn root(before: u32, x: f32) -> Reply
     ensures { result ≡ root_reply before x }
 {
@@ -59,6 +58,7 @@ pub fn root(before: u32, x: f32) -> Reply
 }
 
 // The arc cosine, from -1 to 1.
+#[tactic(auto, unfolding(crate::specs::Values::acos_reply))]
 pub fn acos(before: u32, x: f32) -> Reply
     ensures { result ≡ acos_reply before x }
 {
@@ -67,6 +67,7 @@ pub fn acos(before: u32, x: f32) -> Reply
 }
 
 // The distance from p of a primitive: its kind and its eight floats, a the first three, b the next three, then u and v.
+#[tactic(auto, unfolding(crate::specs::Values::prim_dist_reply))]
 pub fn prim_dist(before: u32, kind: u32, a: Vec3, b: Vec3, u: f32, v: f32, p: Vec3) -> Reply
     ensures { result ≡ prim_dist_reply before kind (shape_of kind a b u v) p }
 {
@@ -81,6 +82,7 @@ pub fn prim_dist(before: u32, kind: u32, a: Vec3, b: Vec3, u: f32, v: f32, p: Ve
     float_reply(refusals::lower(before, given), s.dist(p))
 }
 
+#[tactic(auto, unfolding(crate::specs::Values::prim_bounds_reply))]
 pub fn prim_bounds(before: u32, kind: u32, a: Vec3, b: Vec3, u: f32, v: f32) -> Reply
     ensures { result ≡ prim_bounds_reply before kind (shape_of kind a b u v) }
 {
@@ -92,11 +94,13 @@ pub fn prim_bounds(before: u32, kind: u32, a: Vec3, b: Vec3, u: f32, v: f32) -> 
 }
 
 // A vector, where the number is 0.
+#[tactic(auto, unfolding(crate::specs::Light::vec_reply))]
 fn vec_reply(n: u32, v: Vec3) -> Reply
     ensures { result ≡ vec_reply n v }
 {
-    if n == 0 {
-        return reply::done(
+    reply::reply_of(
+        n,
+        reply::done(
             scalar::bits(v.x),
             scalar::bits(v.y),
             scalar::bits(v.z),
@@ -105,27 +109,21 @@ fn vec_reply(n: u32, v: Vec3) -> Reply
             0,
             0,
             0,
-        );
-    }
-    reply::refused(n)
-}
-
-fn quad_ok(q: Quad) -> bool
-    ensures { result ≡ quad_ok q }
-{
-    refusals::both(
-        refusals::within(q.v0, refusals::FARTHEST),
-        refusals::both(
-            refusals::within(q.v1, refusals::FARTHEST),
-            refusals::both(
-                refusals::within(q.v2, refusals::FARTHEST),
-                refusals::within(q.v3, refusals::FARTHEST),
-            ),
         ),
     )
 }
 
+#[tactic(auto, unfolding(crate::specs::Light::quad_ok))]
+fn quad_ok(q: Quad) -> bool
+    ensures { result ≡ quad_ok q }
+{
+    [q.v0, q.v1, q.v2, q.v3]
+        .iter()
+        .all(|v| refusals::within(*v, refusals::FARTHEST))
+}
+
 // The form factor of four corners in the local frame of a point.
+#[tactic(auto, unfolding(crate::specs::Light::form_factor_reply))]
 pub fn form_factor(before: u32, q: Quad) -> Reply
     ensures { result ≡ form_factor_reply before q }
 {
@@ -134,13 +132,11 @@ pub fn form_factor(before: u32, q: Quad) -> Reply
 }
 
 // Fresnel's reflectance at a cosine c, where that straight on is r.
+#[tactic(auto, unfolding(crate::specs::Light::fresnel_reply))]
 pub fn fresnel(before: u32, c: f32, r: Vec3) -> Reply
     ensures { result ≡ fresnel_reply before c r }
 {
-    let given = refusals::both(
-        scalar::magnitude(c, refusals::WIDEST),
-        refusals::within_up_to(r, 1.0),
-    );
+    let given = scalar::magnitude(c, refusals::WIDEST) && refusals::within_up_to(r, 1.0);
     vec_reply(
         refusals::lower(before, refusals::unless(refusals::BAD_NUMBER, given)),
         bsdf::fresnel_schlick(c, r),
@@ -148,6 +144,7 @@ pub fn fresnel(before: u32, c: f32, r: Vec3) -> Reply
 }
 
 // What a material reflects straight on.
+#[tactic(auto, unfolding(crate::specs::Light::f0_reply))]
 pub fn f0(before: u32, m: Material) -> Reply
     ensures { result ≡ f0_reply before m }
 {
@@ -157,6 +154,7 @@ pub fn f0(before: u32, m: Material) -> Reply
     )
 }
 
+#[tactic(auto, unfolding(crate::specs::Light::diffuse_albedo_reply))]
 pub fn diffuse_albedo(before: u32, m: Material) -> Reply
     ensures { result ≡ diffuse_albedo_reply before m }
 {

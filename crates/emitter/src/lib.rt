@@ -7,52 +7,47 @@ ghost use Rattle.emitter.specs.Emitter.{nearer_than, shows_of, emitter_step};
 
 use panel::Panel;
 use plan::QuadLight;
-use quad::Crossing;
 use vectors::Vec3;
 
-// The panel that a ray meets first on its emitting side.
+// A ray that ends at tmax.
 #[derive(Clone, Copy)]
-pub enum Emitted {
-    Nothing,
-    Shows(f32, Vec3),
+pub struct Aim {
+    pub ro: Vec3,
+    pub rd: Vec3,
+    pub tmax: f32,
 }
 
-fn nearer_than(best: Emitted, t: f32) -> bool
+// Where a ray meets a panel on its emitting side, and what that emits.
+#[derive(Clone, Copy)]
+pub struct Emitted {
+    pub t: f32,
+    pub emit: Vec3,
+}
+
+// Any panel is nearer than none.
+#[tactic(auto, unfolding(crate::specs::Emitter::nearer_than))]
+fn nearer_than(best: Option<Emitted>, t: f32) -> bool
     ensures { result ≡ nearer_than best t }
 {
-    match best {
-        Emitted::Nothing => true,
-        Emitted::Shows(bt, _emit) => t < bt,
-    }
+    best.is_none_or(|e| t < e.t)
 }
 
 // Whether the panel shows at t: before the ray's end, on its emitting side, and nearer than the best.
-fn shows(best: Emitted, a: Panel, rd: Vec3, tmax: f32, t: f32) -> bool
-    ensures { result ≡ shows_of best a rd tmax t }
+#[tactic(auto, unfolding(crate::specs::Emitter::shows_of))]
+fn shows(best: Option<Emitted>, a: Panel, aim: Aim, t: f32) -> bool
+    ensures { result ≡ shows_of best a aim.rd aim.tmax t }
 {
-    if t < tmax {
-        let normal = a.normal;
-        if normal.dot(rd) < 0.0 {
-            return nearer_than(best, t);
-        }
-    }
-    false
+    t < aim.tmax && a.normal.dot(aim.rd) < 0.0 && nearer_than(best, t)
 }
 
 // The best so far, or the light l where it shows and is nearer.
-pub fn emitter_step(best: Emitted, l: QuadLight, ro: Vec3, rd: Vec3, tmax: f32) -> Emitted
-    ensures { result ≡ emitter_step ro rd tmax best l }
+#[tactic(auto, unfolding(crate::specs::Emitter::emitter_step))]
+pub fn emitter_step(best: Option<Emitted>, l: QuadLight, aim: Aim) -> Option<Emitted>
+    ensures { result ≡ emitter_step aim.ro aim.rd aim.tmax best l }
 {
     let a = panel::panel_of(l);
-    let quad = a.quad;
-    match quad.intersect(ro, rd) {
-        Crossing::Apart => best,
-        Crossing::At(t) => {
-            if shows(best, a, rd, tmax, t) {
-                let emit = a.emit;
-                return Emitted::Shows(t, emit);
-            }
-            best
-        }
+    match a.quad.intersect(aim.ro, aim.rd) {
+        Some(t) if shows(best, a, aim, t) => Some(Emitted { t, emit: a.emit }),
+        _ => best,
     }
 }

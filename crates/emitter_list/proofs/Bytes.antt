@@ -12,7 +12,8 @@ use borrow.Author.Tests.{leb-true, le-leb}
 use Rattle.vectors.specs.declared.Vec3.{Vec3}
 use Rattle.words.proofs.Runs.{length_from}
 use Rattle.refusals.specs.Refusals.{lower}
-use Rattle.bemitondry_emitter.specs.Emitter.{records_ok, records_in, lent_light, lent_lights, emitter_number, emitter_reply}
+use Rattle.bemitondry_emitter.specs.Emitter.{records_ok, records_in, lent_light, lent_lights, emitter_number}
+use Rattle.bemitondry_emitter.specs.Emitter.{emitter_reply}
 use Rattle.emitter_list.specs.List.{few, judged, asked_number, list_number, list_reply}
 
 none_first : (n : ℕ) → lower 0 n ≡ n

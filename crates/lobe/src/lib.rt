@@ -20,6 +20,7 @@ pub struct View {
     pub kd: Vec3,
 }
 
+#[tactic(auto, unfolding(crate::specs::Lobe::view_of))]
 pub fn view_of(n: Vec3, v: Vec3, m: Material) -> View
     ensures { result ≡ view_of n v m }
 {
@@ -33,6 +34,7 @@ pub fn view_of(n: Vec3, v: Vec3, m: Material) -> View
 }
 
 // The view mirrored in the surface.
+#[tactic(auto, unfolding(crate::specs::Lobe::mirror_of))]
 fn mirror(n: Vec3, v: Vec3) -> Vec3
     ensures { result ≡ mirror_of n v }
 {
@@ -41,31 +43,33 @@ fn mirror(n: Vec3, v: Vec3) -> Vec3
 }
 
 // The panel's point nearest to where the mirrored view r meets its plane at t, where that lies ahead.
+#[tactic(auto, unfolding(crate::specs::Lobe::toward_of))]
 fn toward(p: Vec3, a: Panel, r: Vec3, t: f32) -> Vec3
     ensures { result ≡ toward_of p a r t }
 {
     if t > 0.0 {
-        let quad = a.quad;
-        return quad.closest(p.add(r.scale(t)));
+        a.quad.closest(p.add(r.scale(t)))
+    } else {
+        a.center
     }
-    a.center
 }
 
 // The representative point of a panel.
+#[tactic(auto, unfolding(crate::specs::Lobe::rep_of))]
 pub fn rep(s: Site, v: Vec3, a: Panel) -> Vec3
     ensures { result ≡ rep_of s v a }
 {
     let r = mirror(s.n, v);
     let denom = r.dot(a.normal);
     if scalar::abs(denom) > 0.000001 {
-        let quad = a.quad;
-        let v0 = quad.v0;
-        return toward(s.p, a, r, v0.sub(s.p).dot(a.normal) / denom);
+        toward(s.p, a, r, a.quad.v0.sub(s.p).dot(a.normal) / denom)
+    } else {
+        a.center
     }
-    a.center
 }
 
 // The lobe's width, widened by a panel so large at such a distance.
+#[tactic(auto, unfolding(crate::specs::Lobe::wide_of))]
 fn wide(alpha: f32, radius: f32, dist: f32) -> f32
     ensures { result ≡ wide_of alpha radius dist }
 {
@@ -77,6 +81,7 @@ fn wide(alpha: f32, radius: f32, dist: f32) -> f32
 }
 
 // The lobe about the direction l, with the cosine nl and the width `wide`.
+#[tactic(auto, unfolding(crate::specs::Lobe::lobe_of))]
 fn lobe(w: View, n: Vec3, l: Vec3, nl: f32, wide: f32) -> Vec3
     ensures { result ≡ lobe_of w n l nl wide }
 {
@@ -89,6 +94,7 @@ fn lobe(w: View, n: Vec3, l: Vec3, nl: f32, wide: f32) -> Vec3
 }
 
 // `out` with the lobe toward `to`; none where that has no length or lies behind.
+#[tactic(auto, unfolding(crate::specs::Lobe::gloss_of))]
 pub fn gloss(w: View, n: Vec3, to: Vec3, radius: f32, radiance: Vec3, out: Vec3) -> Vec3
     ensures { result ≡ gloss_of w n to radius radiance out }
 {

@@ -1,17 +1,20 @@
--- The five places as a list: what is added to the first five and cut to five is what is added to all and cut; and what
--- the places hold when all are taken, or fewer than three. By induction on the number, and by cases. Assumes nothing.
-use Prim.Native.Nat.{ℕ, zero, suc, ◌≤◌, ◌<◌}
+-- The five places as a list: what is added to the first five and cut to five is what is added to all and cut; and the
+-- ring of what they hold, by one corner more. By induction on the number, and by cases. Assumes nothing.
+use Prim.Native.Nat.{ℕ, zero, suc, ◌+◌, ◌-◌, ◌≤◌, ◌<◌}
 use mathlib.Core.Path.{◌≡◌, refl, sym, ap, ◌∙◌}
-use mathlib.Core.List.{List, [], ◌∷◌, ◌++◌, append-nil, append_assoc}
+use mathlib.Core.Bool.{Bool, cond}
+use mathlib.Core.List.{List, [], ◌∷◌, ◌++◌, map, append-nil, append_assoc}
+use native.Mathlib.Numerals.{add-one}
 use native.Mathlib.Omega.{arith}
-use lib.ListN.{length, take, length-take}
+use lib.ListN.{length, take, drop}
 use lib.Seq.{take_all}
+use lib.Ieee.{Float}
+use Rattle.std.proofs.Common.{get_or, drop-cons}
+use Rattle.std.proofs.Math.ListN.{drop_of_length-le}
 use Rattle.scalar.specs.F32.{f0}
 use Rattle.vectors.specs.declared.Vec3.{Vec3}
 use Rattle.quad.specs.declared.Quad.{Quad}
-use Rattle.ltc.specs.declared.Corners.{Corners}
-use Rattle.ltc.specs.FormFactor.{clip_edge, clipped, clip_of, ring_of}
-use Rattle.ltc.specs.Inside.Corners.{corners_in}
+use Rattle.ltc.specs.FormFactor.{clip_edge, clipped, clip_of, on_sphere, edge_sum, ring_from, ring_of}
 
 cut_more : {A : Type 0} (n : ℕ) (xs ys : List A) → take n (take n xs ++ ys) ≡ take n (xs ++ ys)
 cut_more zero xs ys = refl
@@ -21,11 +24,19 @@ cut_more (suc n) (x ∷ xs) ys = ap (λ l. x ∷ l) (cut_more n xs ys)
 more : (xs ys : List Vec3) {l r : List Vec3} → l ≡ take 5 xs → r ≡ take 5 (l ++ ys) → r ≡ take 5 (xs ++ ys)
 more xs ys e h = h ∙ rw e (cut_more 5 xs ys)
 
-pub two_more :
-    (xs : List Vec3) (a b : Vec3) {l r : List Vec3} → l ≡ take 5 (xs ++ (a ∷ [])) → r ≡ take 5
-    (l ++ (b ∷ []))
-    → r ≡ take 5 (xs ++ (a ∷ b ∷ []))
-two_more xs a b e h = more (xs ++ (a ∷ [])) (b ∷ []) e h ∙ ap (take 5) (append_assoc xs (a ∷ []) (b ∷ []))
+-- an edge's two parts, one after the other
+pub two_parts
+    : (p s : Bool) (a x : Vec3) (xs : List Vec3) {l r : List Vec3}
+    → l ≡ take 5 (xs ++ cond p (a ∷ []) [])
+    → r ≡ take 5 (l ++ cond s [] (x ∷ []))
+    → r ≡ take 5 (xs ++ (cond p (a ∷ []) [] ++ cond s [] (x ∷ [])))
+two_parts p s a x xs e h =
+    more (xs ++ cond p (a ∷ []) []) (cond s [] (x ∷ [])) e h
+    ∙ ap (take 5) (append_assoc xs (cond p (a ∷ []) []) (cond s [] (x ∷ [])))
+
+-- nothing is added to five at most
+pub same : (xs : List Vec3) → length xs ≤ 5 → xs ≡ take 5 (xs ++ [])
+same xs h = rw append-nil (sym (take_all 5 xs h))
 
 -- the four edges, one after the other
 pub four :
@@ -39,26 +50,49 @@ four q e0 e1 e2 e3 e4 =
     let d = clip_edge q.v2 q.v3 in
     more ((a ++ b) ++ d) _ (more (a ++ b) d (more a b (more [] a e0 e1) e2) e3) e4
 
--- ---- all places taken
-pub full : (c : Corners) → 5 ≤ c.n → corners_in c ≡ c.c0 ∷ c.c1 ∷ c.c2 ∷ c.c3 ∷ c.c4 ∷ []
-unfolding corners_in
-full c h = take_all c.n _ h
-
-cut_all : (n : ℕ) (l : List Vec3) → length l ≡ 5 → take n l ≡ take 5 (take n l ++ [])
-cut_all n l e = rw append-nil (sym (take_all 5 (take n l) (omega (arith, length-take n l))))
-
-pub same : (c : Corners) → corners_in c ≡ take 5 (corners_in c ++ [])
-unfolding corners_in
-same c = cut_all c.n _ refl
-
--- ---- fewer than three
-few_none : (n : ℕ) (a b d : Vec3) (l : List Vec3) → n < 3 → ring_of (take n (a ∷ b ∷ d ∷ l)) ≡ f0
+-- ---- the ring of the first n places: none of fewer than three; else its start, a turn of the code's loop, and its end
+pub no_ring : (n : ℕ) (ps : List Vec3) → n < 3 → ring_of (take n ps) ≡ f0
 unfolding ring_of
-few_none zero a b d l h = refl
-few_none (suc zero) a b d l h = refl
-few_none (suc (suc zero)) a b d l h = refl
-few_none (suc (suc (suc n))) a b d l h = absurd (omega arith)
+no_ring zero ps h = refl
+no_ring (suc n) [] h = refl
+no_ring (suc zero) (a ∷ ps) h = refl
+no_ring (suc (suc n)) (a ∷ []) h = refl
+no_ring (suc (suc zero)) (a ∷ b ∷ ps) h = refl
+no_ring (suc (suc (suc n))) (a ∷ b ∷ ps) h = absurd (omega arith)
 
-pub no_ring : (c : Corners) → c.n < 3 → ring_of (corners_in c) ≡ f0
-unfolding corners_in
-no_ring c h = few_none c.n _ _ _ _ h
+-- one place more, and the first of two or more
+from_first
+    : (k : ℕ) (ps : List Vec3) (d : Vec3) → 2 ≤ k → k < length ps
+    → ring_from (on_sphere (get_or ps 0 d)) (on_sphere (get_or ps 0 d) ∷ map on_sphere (take k (drop 1 ps))) f0
+    ≡ ring_of (take (suc k) ps)
+unfolding ring_of
+from_first k [] d g h = absurd (omega arith)
+from_first zero (a ∷ ps) d g h = absurd (omega arith)
+from_first (suc zero) (a ∷ ps) d g h = absurd (omega arith)
+from_first (suc (suc k)) (a ∷ []) d g h = absurd (omega arith)
+from_first (suc (suc k)) (a ∷ b ∷ []) d g h = absurd (omega arith)
+from_first (suc (suc k)) (a ∷ b ∷ e ∷ ps) d g h = refl
+
+pub ring_start
+    : (n : ℕ) (ps : List Vec3) (d : Vec3) → 3 ≤ n → n ≤ length ps
+    → ring_from (on_sphere (get_or ps 0 d)) (on_sphere (get_or ps 0 d) ∷ map on_sphere (take (n - 1) (drop 1 ps))) f0
+    ≡ ring_of (take n ps)
+ring_start n ps d g h =
+    let e : suc (n - 1) ≡ n = omega arith in
+    let f = from_first (n - 1) ps d (omega arith) (omega arith) in
+    rw e at f
+
+pub ring_turn
+    : (first a b : Vec3) (vs : List Vec3) (i : ℕ) (s t : Float) (d : Vec3) {whole : Float} → i < length vs
+    → b ≡ on_sphere (get_or vs i d) → t ≡ edge_sum s a b
+    → ring_from first (a ∷ map on_sphere (drop i vs)) s ≡ whole
+    → ring_from first (b ∷ map on_sphere (drop (i + 1) vs)) t ≡ whole
+unfolding ring_from
+ring_turn first a b vs i s t d h eb et e = rw (et, eb, add-one) (rw (drop-cons vs i d h) at e)
+
+pub ring_end
+    : (first a : Vec3) (vs : List Vec3) (i : ℕ) (s : Float) {t whole : Float}
+    → ring_from first (a ∷ map on_sphere (drop i vs)) s ≡ whole → t ≡ edge_sum s a first → length vs ≤ i
+    → t ≡ whole
+unfolding ring_from
+ring_end first a vs i s e et h = rw et (rw (drop_of_length-le vs {i = i} h) at e)

@@ -3,14 +3,17 @@
 
 #![tactic(auto)]
 
-ghost use Rattle.std.specs.Prelude.{◌≡◌, [], ◌∷◌, ◌++◌, take};
+ghost use Rattle.std.specs.Prelude.{◌≡◌, ◌≤◌, List, [], ◌∷◌, ◌++◌, length, take};
+ghost use Rattle.vectors.specs.declared.Vec3.{Vec3};
 ghost use Rattle.ltc.specs.Frame.{side_of, frame_of, local_of, to_local_of};
 ghost use Rattle.ltc.specs.FormFactor.{crossing_of, clip_edge, clip_of, on_sphere, edge_sum, ring_of};
 ghost use Rattle.ltc.specs.FormFactor.{form_factor_of};
-ghost use Rattle.ltc.specs.Inside.Corners.{corners_in};
 
 use quad::Quad;
+use std::marker::Model;
 use vectors::Vec3;
+
+const PLACES: usize = 5;
 
 // Two directions across a normal.
 #[derive(Clone, Copy)]
@@ -19,18 +22,24 @@ pub struct Axes {
     pub bit: Vec3,
 }
 
-// The first n of five corners.
-#[derive(Clone, Copy)]
+// At most five corners: the first n of the places.
+#[derive(Drop)]
 pub struct Corners {
-    pub n: u32,
-    pub c0: Vec3,
-    pub c1: Vec3,
-    pub c2: Vec3,
-    pub c3: Vec3,
-    pub c4: Vec3,
+    places: [Vec3; PLACES],
+    n: usize,
+}
+
+// Clauses see the corners as a list.
+impl Model for Corners {
+    ghost Value = { List Vec3 };
+
+    ghost view = { λ c. take c.n c.places };
+
+    ghost invariant = { λ c. c.n ≤ 5 };
 }
 
 // 1 with the sign of a normal's z.
+#[tactic(auto, unfolding(crate::specs::Frame::side_of))]
 fn side(z: f32) -> f32
     ensures { result ≡ side_of z }
 {
@@ -38,6 +47,7 @@ fn side(z: f32) -> f32
 }
 
 // No degenerate case: s has the sign of z, so that s + z is never 0.
+#[tactic(auto, unfolding(crate::specs::Frame::frame_of))]
 pub fn frame(n: Vec3) -> Axes
     ensures { result ≡ frame_of n }
 {
@@ -59,6 +69,7 @@ pub fn frame(n: Vec3) -> Axes
 }
 
 // The corner v seen from p.
+#[tactic(auto, unfolding(crate::specs::Frame::local_of))]
 fn local(v: Vec3, p: Vec3, f: Axes, n: Vec3) -> Vec3
     ensures { result ≡ local_of v p f n }
 {
@@ -71,6 +82,7 @@ fn local(v: Vec3, p: Vec3, f: Axes, n: Vec3) -> Vec3
 }
 
 // The corners are reversed: seen from the receiver they go round the other way.
+#[tactic(auto, unfolding(crate::specs::Frame::to_local_of))]
 pub fn to_local(q: Quad, p: Vec3, f: Axes, n: Vec3) -> Quad
     ensures { result ≡ to_local_of q p f n }
 {
@@ -82,57 +94,8 @@ pub fn to_local(q: Quad, p: Vec3, f: Axes, n: Vec3) -> Quad
     }
 }
 
-fn none() -> Corners
-    ensures { corners_in result ≡ [] }
-{
-    let z = Vec3::splat(0.0);
-    Corners {
-        n: 0,
-        c0: z,
-        c1: z,
-        c2: z,
-        c3: z,
-        c4: z,
-    }
-}
-
-// One corner more, where there is a place.
-fn put(c: Corners, v: Vec3) -> Corners
-    ensures { corners_in result ≡ take 5 (corners_in c ++ (v ∷ [])) }
-{
-    let n = c.n;
-    let mut r = c;
-    match n {
-        0 => {
-            r.c0 = v;
-            r.n = 1;
-            return r;
-        }
-        1 => {
-            r.c1 = v;
-            r.n = 2;
-            return r;
-        }
-        2 => {
-            r.c2 = v;
-            r.n = 3;
-            return r;
-        }
-        3 => {
-            r.c3 = v;
-            r.n = 4;
-            return r;
-        }
-        4 => {
-            r.c4 = v;
-            r.n = 5;
-            return r;
-        }
-        _ => return c,
-    }
-}
-
 // Where the edge from a to b crosses the horizon.
+#[tactic(auto, unfolding(crate::specs::FormFactor::crossing_of))]
 fn crossing(a: Vec3, b: Vec3) -> Vec3
     ensures { result ≡ crossing_of a b }
 {
@@ -140,32 +103,72 @@ fn crossing(a: Vec3, b: Vec3) -> Vec3
     a.add(b.sub(a).scale(t))
 }
 
-// The corners with those that the edge from a to b gives.
-fn clip_edge(c: Corners, a: Vec3, b: Vec3) -> Corners
-    ensures { corners_in result ≡ take 5 (corners_in c ++ clip_edge a b) }
-{
-    if a.z >= 0.0 {
-        if b.z >= 0.0 {
-            return put(c, a);
+impl Corners {
+    fn none() -> Corners
+        ensures { result ≡ [] }
+    {
+        Corners {
+            places: [Vec3::splat(0.0); PLACES],
+            n: 0,
         }
-        return put(put(c, a), crossing(a, b));
     }
-    if b.z >= 0.0 {
-        return put(c, crossing(a, b));
+
+    // One corner more, where there is a place.
+    fn put(&mut self, v: Vec3)
+        ensures { self.new ≡ take 5 (self.old ++ (v ∷ [])) }
+    {
+        if self.n == PLACES {
+            return;
+        }
+        self.places[self.n] = v;
+        self.n += 1;
     }
-    c
+
+    // The corners that the edge from a to b gives. It asks for what the model promises, which a clause does not see.
+    fn clip_edge(&mut self, a: Vec3, b: Vec3)
+        requires { length self.old ≤ 5 }
+        ensures { self.new ≡ take 5 (self.old ++ clip_edge a b) }
+    {
+        if a.z >= 0.0 {
+            self.put(a);
+        }
+        if (a.z >= 0.0) != (b.z >= 0.0) {
+            self.put(crossing(a, b));
+        }
+    }
+
+    // The edges of three corners or more, the last one back to the first.
+    fn ring(&self) -> f32
+        ensures { result ≡ ring_of self.now }
+    {
+        if self.n < 3 {
+            return 0.0;
+        }
+        let first = on_sphere(self.places[0]);
+        let mut a = first;
+        let mut sum = 0.0;
+        for v in &self.places[1..self.n] {
+            let b = on_sphere(*v);
+            sum = edge_sum(sum, a, b);
+            a = b;
+        }
+        edge_sum(sum, a, first)
+    }
 }
 
 fn clip_to_horizon(q: Quad) -> Corners
-    ensures { corners_in result ≡ clip_of q }
+    ensures { result ≡ clip_of q }
 {
-    let c = clip_edge(none(), q.v0, q.v1);
-    let c = clip_edge(c, q.v1, q.v2);
-    let c = clip_edge(c, q.v2, q.v3);
-    clip_edge(c, q.v3, q.v0)
+    let mut c = Corners::none();
+    c.clip_edge(q.v0, q.v1);
+    c.clip_edge(q.v1, q.v2);
+    c.clip_edge(q.v2, q.v3);
+    c.clip_edge(q.v3, q.v0);
+    c
 }
 
 // A corner no longer than 1e-9 stays as it is.
+#[tactic(auto, unfolding(crate::specs::FormFactor::on_sphere))]
 fn on_sphere(v: Vec3) -> Vec3
     ensures { result ≡ on_sphere v }
 {
@@ -177,6 +180,7 @@ fn on_sphere(v: Vec3) -> Vec3
 }
 
 // The sum with the edge from a to b.
+#[tactic(auto, unfolding(crate::specs::FormFactor::edge_sum))]
 fn edge_sum(s: f32, a: Vec3, b: Vec3) -> f32
     ensures { result ≡ edge_sum s a b }
 {
@@ -189,32 +193,10 @@ fn edge_sum(s: f32, a: Vec3, b: Vec3) -> f32
     s
 }
 
-// The edges of three corners or more, the last one back to the first.
-fn ring(c: Corners) -> f32
-    ensures { result ≡ ring_of (corners_in c) }
-{
-    if c.n < 3 {
-        return 0.0;
-    }
-    let a = on_sphere(c.c0);
-    let b = on_sphere(c.c1);
-    let d = on_sphere(c.c2);
-    let s = edge_sum(edge_sum(0.0, a, b), b, d);
-    if c.n == 3 {
-        return edge_sum(s, d, a);
-    }
-    let e = on_sphere(c.c3);
-    let s = edge_sum(s, d, e);
-    if c.n == 4 {
-        return edge_sum(s, e, a);
-    }
-    let f = on_sphere(c.c4);
-    edge_sum(edge_sum(s, e, f), f, a)
-}
-
 // A quad in the local frame of a point.
+#[tactic(auto, unfolding(crate::specs::FormFactor::form_factor_of))]
 pub fn quad_form_factor(q: Quad) -> f32
     ensures { result ≡ form_factor_of q }
 {
-    scalar::max(ring(clip_to_horizon(q)) * 0.15915494, 0.0)
+    scalar::max(clip_to_horizon(q).ring() * 0.15915494, 0.0)
 }

@@ -18,14 +18,17 @@ pub struct Panel {
     pub emit: Vec3,
 }
 
+#[tactic(auto, unfolding(crate::specs::Panels::panel_of))]
 pub fn panel_of(l: QuadLight) -> Panel
     ensures { result ≡ panel_of l }
 {
-    let v0 = l.v0;
-    let v1 = l.v1;
-    let v2 = l.v2;
-    let v3 = l.v3;
-    let emit = l.emit;
+    let QuadLight {
+        v0,
+        v1,
+        v2,
+        v3,
+        emit,
+    } = l;
     let quad = Quad { v0, v1, v2, v3 };
     Panel {
         quad,
@@ -36,27 +39,27 @@ pub fn panel_of(l: QuadLight) -> Panel
 }
 
 // Whether the panel faces away from a point that `to` leads from.
+#[tactic(auto, unfolding(crate::specs::Panels::culled_of))]
 pub fn culled(a: Panel, to: Vec3) -> bool
     ensures { result ≡ culled_of a to }
 {
-    let normal = a.normal;
-    normal.dot(to.normalize().neg()) <= 0.0
+    a.normal.dot(to.normalize().neg()) <= 0.0
 }
 
+#[tactic(auto, unfolding(crate::specs::Panels::radius_of))]
 pub fn radius_of(a: Panel) -> f32
     ensures { result ≡ radius_of a }
 {
-    let quad = a.quad;
-    scalar::max(root::root(quad.area() / 3.14159274), 0.0001)
+    scalar::max(root::root(a.quad.area() / 3.14159274), 0.0001)
 }
 
 // 9 where the panel's centre is at p by the computed length.
+#[tactic(auto, unfolding(crate::specs::Panels::at_light_number))]
 pub fn at_light_number(p: Vec3, l: QuadLight) -> u32
     ensures { result ≡ at_light_number p l }
 {
     let a = panel_of(l);
-    let center = a.center;
-    if center.sub(p).length() == 0.0 {
+    if a.center.sub(p).length() == 0.0 {
         return refusals::AT_LIGHT;
     }
     0

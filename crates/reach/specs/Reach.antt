@@ -1,5 +1,5 @@
 -- Whether a panel reaches a point of a surface, and how: the source's `direct` up to its visibility.
-use Rattle.std.specs.Prelude.{cond, Float}
+use Rattle.std.specs.Prelude.{cond, Some, None, Float}
 use Rattle.std.specs.Float.Ieee.{le}
 use Rattle.scalar.specs.F32.{◌⊖◌, ◌⊗◌, ◌⊘◌, f96, f1·25, f1·5, f0·015, f0·05, f3e_3, f1e_4, f1e_6}
 use Rattle.scalar.specs.Extremes.{fmax, clamp_of}
@@ -13,7 +13,6 @@ use Rattle.trace.specs.Shadow.{shadow_of}
 use Rattle.panel.specs.declared.Panel.{Panel}
 use Rattle.reach.specs.declared.Site.{Site}
 use Rattle.reach.specs.declared.Reach.{Reach}
-use Rattle.reach.specs.declared.Reach.TheVariants.{Shut, Open}
 use Rattle.panel.specs.Panels.{culled_of, radius_of}
 
 unfoldable pub site_of : Vec3 → Vec3 → Site  -- a point of a surface with its normal, and the frame about that
@@ -35,11 +34,11 @@ shadow_at field s to radius =
 -- what is seen past a shadow: nothing where that leaves next to no light
 unfoldable pub sight_of : Float → Float → Shadow → Reach
 sight_of ff radius shadow =
-    cond (le shadow.vis f1e_4) (Shut shadow.count)
-    (Open (record { ff = ff; vis = shadow.vis; radius = radius }) shadow.count)
+    cond (le shadow.vis f1e_4) (record { sight = None; count = shadow.count })
+    (record { sight = Some (record { ff = ff; vis = shadow.vis; radius = radius }); count = shadow.count })
 
 unfoldable pub reach_of : Field → Site → Panel → Reach
 reach_of field s a =
-    cond (culled_of a (to_light s a)) (Shut 0)
-    (cond (le (share_of s a) f1e_6) (Shut 0)
+    cond (culled_of a (to_light s a)) (record { sight = None; count = 0 })
+    (cond (le (share_of s a) f1e_6) (record { sight = None; count = 0 })
     (sight_of (share_of s a) (radius_of a) (shadow_at field s (to_light s a) (radius_of a))))

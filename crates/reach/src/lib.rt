@@ -1,4 +1,5 @@
-// Whether a panel reaches a point of a surface: its share of the hemisphere, and what one shadow leaves of it.
+// Whether a panel reaches a point of a surface: its share of the hemisphere, and what one shadow leaves of it. `tree`
+// is a number, as callers have it.
 
 #![tactic(auto)]
 
@@ -9,7 +10,7 @@ ghost use Rattle.reach.specs.Reach.{site_of, shadow_at, sight_of, reach_of};
 use ltc::Axes;
 use panel::Panel;
 use plan::{Floats, Words};
-use trace::Shadow;
+use trace::{Ray, Shadow};
 use vectors::Vec3;
 
 // A point of a surface with its normal, and the frame about that.
@@ -28,13 +29,19 @@ pub struct Sight {
     pub radius: f32,
 }
 
-// Whether a panel reaches a site, and the evaluations that its shadow took.
+// What a site sees of a panel, if that reaches it, and the evaluations that its shadow took.
 #[derive(Clone, Copy)]
-pub enum Reach {
-    Shut(u32),
-    Open(Sight, u32),
+pub struct Reach {
+    pub sight: Option<Sight>,
+    pub count: u32,
 }
 
+const UNSEEN: Reach = Reach {
+    sight: None,
+    count: 0,
+};
+
+#[tactic(auto, unfolding(crate::specs::Reach::site_of))]
 pub fn site_of(p: Vec3, n: Vec3) -> Site
     ensures { result ≡ site_of p n }
 {
@@ -46,54 +53,52 @@ pub fn site_of(p: Vec3, n: Vec3) -> Site
 }
 
 // One cone, as tight as the panel is small; it ends more than a radius short of the panel.
+#[tactic(auto, unfolding(crate::specs::Reach::shadow_at))]
 fn shadow_at(tree: u32, ws: &Words, fs: &Floats, s: Site, to: Vec3, radius: f32) -> Shadow
     ensures { result ≡ shadow_at (field_by tree ws.now fs.now) s to radius }
 {
     let dist = to.length();
     let k = scalar::clamp(dist / radius, 1.5, 96.0);
-    let end = scalar::max(dist - radius * 1.25, 0.05);
-    let p = s.p;
-    let n = s.n;
-    trace::soft_shadow(
-        tree,
-        ws,
-        fs,
-        p.add(n.scale(0.003)),
-        to.over(dist),
-        0.015,
-        end,
-        k,
-    )
+    let ray = Ray {
+        ro: s.p.add(s.n.scale(0.003)),
+        rd: to.over(dist),
+        tmin: 0.015,
+        tmax: scalar::max(dist - radius * 1.25, 0.05),
+    };
+    trace::soft_shadow(tree, ws, fs, ray, k)
 }
 
 // What is seen of a panel past its shadow; nothing where that leaves next to no light.
+#[tactic(auto, unfolding(crate::specs::Reach::sight_of))]
 fn sight_of(ff: f32, radius: f32, shadow: Shadow) -> Reach
     ensures { result ≡ sight_of ff radius shadow }
 {
-    if shadow.vis <= 0.0001 {
-        return Reach::Shut(shadow.count);
-    }
-    Reach::Open(
-        Sight {
+    let sight = if shadow.vis <= 0.0001 {
+        None
+    } else {
+        Some(Sight {
             ff,
             vis: shadow.vis,
             radius,
-        },
-        shadow.count,
-    )
+        })
+    };
+    Reach {
+        sight,
+        count: shadow.count,
+    }
 }
 
+#[tactic(auto, unfolding(crate::specs::Reach::reach_of))]
 pub fn reach_of(tree: u32, ws: &Words, fs: &Floats, s: Site, a: Panel) -> Reach
     ensures { result ≡ reach_of (field_by tree ws.now fs.now) s a }
 {
-    let center = a.center;
-    let to = center.sub(s.p);
+    let to = a.center.sub(s.p);
     if panel::culled(a, to) {
-        return Reach::Shut(0);
+        return UNSEEN;
     }
     let ff = ltc::quad_form_factor(ltc::to_local(a.quad, s.p, s.frame, s.n));
     if ff <= 0.000001 {
-        return Reach::Shut(0);
+        return UNSEEN;
     }
     let radius = panel::radius_of(a);
     sight_of(ff, radius, shadow_at(tree, ws, fs, s, to, radius))

@@ -1,19 +1,18 @@
 -- Loops over a plan's lights: the lights gone through are the first sixteen at most, one light more at the end is one
 -- step more, and each takes at most 96 evaluations, since a shadow does. By induction on the list. Assumes nothing.
-use Prim.Native.Nat.{ℕ, zero, suc, ◌+◌, ◌*◌, ◌≤◌, ◌<◌, min}
+use Prim.Native.Nat.{ℕ, zero, suc, ◌+◌, ◌*◌, ◌≤◌, min}
 use mathlib.Core.Path.{◌≡◌, refl, sym}
 use mathlib.Core.Bool.{Bool, true, false, cond}
 use mathlib.Core.List.{List, [], ◌∷◌, ◌++◌}
 use native.Mathlib.Nat.{zero-add}
 use native.Mathlib.Numerals.{add-one}
 use native.Mathlib.Omega.{arith}
+use Rattle.std.specs.Prelude.{Some, None}
 use lib.ListN.{length, take}
 use lib.Ieee.{Float, le}
-use mir.Syntax.{w32}
-use mir.Val.{Fits}
 use Rattle.scalar.specs.F32.{f1e_4, f1e_6}
 use Rattle.words.specs.Lists.{list_from}
-use Rattle.words.proofs.Runs.{from_snoc, length_from}
+use Rattle.words.proofs.Runs.{from_snoc}
 use Rattle.vectors.specs.declared.Vec3.{Vec3}
 use Rattle.plan.specs.declared.Material.{Material}
 use Rattle.plan.specs.declared.QuadLight.{QuadLight}
@@ -26,11 +25,11 @@ use Rattle.panel.specs.declared.Panel.{Panel}
 use Rattle.reach.specs.declared.Site.{Site}
 use Rattle.reach.specs.declared.Sight.{Sight}
 use Rattle.lobe.specs.declared.View.{View}
-use Rattle.reach.specs.declared.Reach.TheVariants.{Shut, Open}
+use Rattle.reach.specs.declared.Reach.{Reach}
 use Rattle.shade.specs.declared.Lit.{Lit}
 use Rattle.panel.specs.Panels.{culled_of, radius_of}
 use Rattle.reach.specs.Reach.{to_light, share_of, shadow_at, sight_of, reach_of}
-use Rattle.shade.specs.Direct.{lit_by, diffuse_step, direct_step, lights_by, direct_diffuse_of, direct_of, panels_in}
+use Rattle.shade.specs.Direct.{diffuse_step, direct_step, lights_by, direct_diffuse_of, direct_of, panels_in}
 
 -- ---- the lights gone through
 take_from : {A : Type 0} (g : ℕ → A) (a m n : ℕ) → take m (list_from g a n) ≡ list_from g a (min n m)
@@ -56,18 +55,20 @@ shadow_most : (field : Field) (s : Site) (to : Vec3) (radius : Float) → (shado
 unfolding shadow_at
 shadow_most field s to radius = rw shadow_count (shadow_few _ _ _ _ _ _)
 
-reach_most
-    : (field : Field) (s : Site) (a : Panel) (shine : Sight → Vec3) (out : Vec3)
-    → (lit_by shine out (reach_of field s a)).count ≤ 96
+pub reach_most : (field : Field) (s : Site) (a : Panel) → (reach_of field s a).count ≤ 96
 unfolding reach_of sight_of
-reach_most field s a shine out =
-    go (culled_of a (to_light s a)) (le (share_of s a) f1e_6) (le (shadow_at field s (to_light s a) (radius_of a)).vis f1e_4)
+reach_most field s a =
+    go (culled_of a (to_light s a)) (le (share_of s a) f1e_6)
+    (le (shadow_at field s (to_light s a) (radius_of a)).vis f1e_4)
     _ _ (shadow_most field s (to_light s a) (radius_of a))
   where
+    shut : ℕ → Reach
+    shut n = record { sight = None; count = n }
+
     go
         : (c d e : Bool) (g : Sight) (n : ℕ)
         → n ≤ 96
-        → (lit_by shine out (cond c (Shut 0) (cond d (Shut 0) (cond e (Shut n) (Open g n))))).count ≤ 96
+        → (cond c (shut 0) (cond d (shut 0) (cond e (shut n) (record { sight = Some g; count = n })))).count ≤ 96
     go true d e g n h = omega arith
     go false true e g n h = omega arith
     go false false true g n h = h
@@ -99,7 +100,7 @@ module _ (step : Vec3 → QuadLight → Lit) where
   lights_all : Few → (ls : List QuadLight) (out : Vec3) → (lights_by step ls out 0).count ≤ 96 * length ls
   lights_all few ls out = omega (arith, lights_count few ls out 0)
 
-  -- a loop over a list of a function of the index: at its start, at a turn, and what its counts come to
+  -- a loop over a list of a function of the index: at its start, and at a turn
   module _ (g : ℕ → QuadLight) (out : Vec3) where
     abbrev after : ℕ → Lit
     after j = lights_by step (list_from g 0 j) out 0
@@ -112,24 +113,18 @@ module _ (step : Vec3 → QuadLight → Lit) where
       pub lit_more : record { light = x.light; count = r.count + x.count } ≡ after (j + 1)
       lit_more = rw (add-one, from_snoc g 0 j, lights_snoc, zero-add, sym e, sym q)
 
-      pub lit_fits : Few → j < 16 → Fits w32 (r.count + x.count)
-      lit_fits few h =
-          let a : r.count ≤ 96 * j = rw e (omega (arith, lights_all few (list_from g 0 j) out, length_from g 0 j)) in
-          let b : x.count ≤ 96 = rw q (few r.light (g j)) in
-          record { fits = omega arith }
-
 -- ---- the counts of the calls
 pub diffuse_most
     : (field : Field) (s : Site) (albedo out : Vec3) (l : QuadLight)
     → (diffuse_step field s albedo out l).count ≤ 96
 unfolding diffuse_step
-diffuse_most field s albedo out l = reach_most field s _ _ out
+diffuse_most field s albedo out l = reach_most field s _
 
 pub step_most
     : (field : Field) (s : Site) (w : View) (out : Vec3) (l : QuadLight)
     → (direct_step field s w out l).count ≤ 96
 unfolding direct_step
-step_most field s w out l = reach_most field s _ _ out
+step_most field s w out l = reach_most field s _
 
 pub direct_diffuse_count
     : (field : Field) (ls : List QuadLight) (p n albedo : Vec3)

@@ -1,6 +1,7 @@
 -- "`direct` and `direct_diffuse` follow source document 003, at most 96 evaluations a light." Over any field and any
 -- list of lights; counts are summed.
-use Rattle.std.specs.Prelude.{ℕ, ◌+◌, min, List, [], ◌∷◌}
+use Rattle.std.specs.Prelude.{◌≡◌, ℕ, ◌+◌, ◌≤◌, min, List, [], ◌∷◌}
+use Rattle.std.specs.Option.{option_map_or}
 use Rattle.scalar.specs.F32.{◌⊗◌, f0}
 use Rattle.vectors.specs.declared.Vec3.{Vec3}
 use Rattle.vectors.specs.Vec.{vsplat, vadd, vsub, vmul, vscale}
@@ -14,7 +15,6 @@ use Rattle.reach.specs.declared.Site.{Site}
 use Rattle.reach.specs.declared.Sight.{Sight}
 use Rattle.lobe.specs.declared.View.{View}
 use Rattle.reach.specs.declared.Reach.{Reach}
-use Rattle.reach.specs.declared.Reach.TheVariants.{Shut, Open}
 use Rattle.shade.specs.declared.Lit.{Lit}
 use Rattle.panel.specs.Panels.{panel_of}
 use Rattle.reach.specs.Reach.{site_of}
@@ -23,8 +23,7 @@ use Rattle.lobe.specs.Lobe.{view_of, rep_of, gloss_of}
 
 -- `out` stays where a panel does not reach; else `shine` adds to it
 abbrev pub lit_by : (Sight → Vec3) → Vec3 → Reach → Lit
-lit_by shine out (Shut n) = record { light = out; count = n }
-lit_by shine out (Open s n) = record { light = shine s; count = n }
+lit_by shine out r = record { light = option_map_or shine r.sight out; count = r.count }
 
 -- one light, added to `out`, and its evaluations
 unfoldable pub diffuse_step : Field → Site → Vec3 → Vec3 → QuadLight → Lit
@@ -45,6 +44,14 @@ direct_step field s w out l = lit_by (shone s w (panel_of l) out) out (reach_of 
 unfoldable pub lights_by : (Vec3 → QuadLight → Lit) → List QuadLight → Vec3 → ℕ → Lit
 lights_by step [] out made = record { light = out; count = made }
 lights_by step (l ∷ ls) out made = lights_by step ls (step out l).light (made + (step out l).count)
+
+-- whatever a step may come to is what f says
+abbrev pub Gives : (Vec3 → QuadLight → Lit → Type 0) → (Vec3 → QuadLight → Lit) → Type 0
+Gives Post f = (out : Vec3) (l : QuadLight) (r : Lit) → Post out l r → r ≡ f out l
+
+-- whatever a step may come to took so many evaluations at most
+abbrev pub Takes : (Vec3 → QuadLight → Lit → Type 0) → ℕ → Type 0
+Takes Post most = (out : Vec3) (l : QuadLight) (r : Lit) → Post out l r → r.count ≤ most
 
 unfoldable pub direct_diffuse_of : Field → List QuadLight → Vec3 → Vec3 → Vec3 → Lit
 direct_diffuse_of field ls p n albedo = lights_by (diffuse_step field (site_of p n) albedo) ls (vsplat f0) 0

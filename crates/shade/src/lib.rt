@@ -1,18 +1,26 @@
-// Direct light from a plan's panels at a point of a surface: the exact diffuse part, and a lobe.
+// Direct light from a plan's panels at a point of a surface: the exact diffuse part, and a lobe. `tree` is a number, as
+// callers have it.
 
 #![tactic(auto)]
 
 ghost use Rattle.std.specs.Prelude.{◌≡◌, take};
+ghost use Rattle.scalar.specs.F32.{f0};
+ghost use Rattle.vectors.specs.declared.Vec3.{Vec3};
+ghost use Rattle.vectors.specs.Vec.{vsplat};
+ghost use Rattle.plan.specs.declared.QuadLight.{QuadLight};
 ghost use Rattle.plan.specs.Sections.{lights};
 ghost use Rattle.plan.specs.Plan.{plan_of};
 ghost use Rattle.bvh_search.specs.Field.{field_by};
+ghost use Rattle.trace.specs.Shadow.{shadow_most};
 ghost use Rattle.panel.specs.Panels.{panels_number};
 ghost use Rattle.shade.specs.Direct.{diffuse_step, shone, direct_step, direct_diffuse_of, direct_of, panels_in};
+ghost use Rattle.shade.specs.Direct.{Gives, Takes, lights_by};
+ghost use Rattle.shade.specs.declared.Lit.{Lit};
 
 use lobe::View;
 use panel::Panel;
 use plan::{Floats, Material, QuadLight, Words};
-use reach::{Reach, Sight, Site};
+use reach::{Sight, Site};
 use vectors::Vec3;
 
 // Light sent back, and the evaluations that it took.
@@ -23,28 +31,24 @@ pub struct Lit {
 }
 
 // How many lights are gone through: no more than a plan may have.
+#[tactic(auto, unfolding(crate::specs::Direct::panels_in))]
 fn panels_in(ws: &Words) -> u32
     ensures { result ≡ panels_in ws.now }
 {
-    let n = ws[plan::COUNT_LIGHTS];
-    if n < plan::LIGHTS { n } else { plan::LIGHTS }
+    ws[plan::COUNT_LIGHTS].min(plan::LIGHTS)
 }
 
 // 9 where some panel's centre is at p, culled or not.
 pub fn panels_number(ws: &Words, fs: &Floats, p: Vec3) -> u32
     ensures { result ≡ panels_number p (take lights.most (plan_of ws.now fs.now).lights) }
 {
-    let n = panels_in(ws);
-    let mut number: u32 = 0;
-    let mut j: u32 = 0;
-    while j < n {
-        number = refusals::lower(number, panel::at_light_number(p, plan::light_in(fs, j)));
-        j += 1;
-    }
-    number
+    refusals::lowest_number(panels_in(ws), |j| {
+        panel::at_light_number(p, plan::light_in(fs, j))
+    })
 }
 
 // One panel's diffuse light, added to `out`, and the evaluations that it took.
+#[tactic(auto, unfolding(crate::specs::Direct::diffuse_step))]
 fn diffuse_step(
     tree: u32,
     ws: &Words,
@@ -56,13 +60,33 @@ fn diffuse_step(
 ) -> Lit
     ensures { result ≡ diffuse_step (field_by tree ws.now fs.now) s albedo out l }
 {
-    match reach::reach_of(tree, ws, fs, s, panel::panel_of(l)) {
-        Reach::Shut(count) => Lit { light: out, count },
-        Reach::Open(sight, count) => Lit {
-            light: out.add(albedo.mul(l.emit).scale(sight.ff * sight.vis)),
-            count,
-        },
+    let r = reach::reach_of(tree, ws, fs, s, panel::panel_of(l));
+    let light = r
+        .sight
+        .map_or(out, |g| out.add(albedo.mul(l.emit).scale(g.ff * g.vis)));
+    Lit {
+        light,
+        count: r.count,
     }
+}
+
+// Every light in order: `step` adds what one sends to `out`.
+fn lights_by<F: Fn(Vec3, QuadLight) -> Lit>(ws: &Words, fs: &Floats, step: F) -> Lit
+    requires callable { F.IsAlwaysCallable step }
+    requires few { Takes (F.post step) shadow_most }
+    ensures { (f : Vec3 → QuadLight → Lit) → Gives (F.post step) f
+        → result ≡ lights_by f (take lights.most (plan_of ws.now fs.now).lights) (vsplat f0) 0 }
+{
+    let mut sum = Lit {
+        light: Vec3::splat(0.0),
+        count: 0,
+    };
+    for j in 0..panels_in(ws) {
+        let lit = step(sum.light, plan::light_in(fs, j));
+        sum.light = lit.light;
+        sum.count += lit.count;
+    }
+    sum
 }
 
 pub fn direct_diffuse(tree: u32, ws: &Words, fs: &Floats, p: Vec3, n: Vec3, albedo: Vec3) -> Lit
@@ -70,27 +94,20 @@ pub fn direct_diffuse(tree: u32, ws: &Words, fs: &Floats, p: Vec3, n: Vec3, albe
         (take lights.most (plan_of ws.now fs.now).lights) p n albedo }
 {
     let s = reach::site_of(p, n);
-    let most = panels_in(ws);
-    let mut light = Vec3::splat(0.0);
-    let mut count: u32 = 0;
-    let mut j: u32 = 0;
-    while j < most {
-        let step = diffuse_step(tree, ws, fs, s, albedo, light, plan::light_in(fs, j));
-        light = step.light;
-        count += step.count;
-        j += 1;
-    }
-    Lit { light, count }
+    lights_by(
+        ws,
+        fs,
+        |out, l| diffuse_step(tree, ws, fs, s, albedo, out, l),
+    )
 }
 
 // `out` with the light of the panel a that is seen so: the diffuse part, then the lobe.
+#[tactic(auto, unfolding(crate::specs::Direct::shone))]
 fn shone(s: Site, w: View, a: Panel, out: Vec3, g: Sight) -> Vec3
     ensures { result ≡ shone s w a out g }
 {
-    let emit = a.emit;
-    let radiance = emit.scale(g.vis);
-    let kd = w.kd;
-    let matt = out.add(kd.mul(radiance).scale(g.ff));
+    let radiance = a.emit.scale(g.vis);
+    let matt = out.add(w.kd.mul(radiance).scale(g.ff));
     lobe::gloss(
         w,
         s.n,
@@ -102,16 +119,16 @@ fn shone(s: Site, w: View, a: Panel, out: Vec3, g: Sight) -> Vec3
 }
 
 // One panel's light, added to `out`, and the evaluations that it took.
+#[tactic(auto, unfolding(crate::specs::Direct::direct_step))]
 fn direct_step(tree: u32, ws: &Words, fs: &Floats, s: Site, w: View, out: Vec3, l: QuadLight) -> Lit
     ensures { result ≡ direct_step (field_by tree ws.now fs.now) s w out l }
 {
     let a = panel::panel_of(l);
-    match reach::reach_of(tree, ws, fs, s, a) {
-        Reach::Shut(count) => Lit { light: out, count },
-        Reach::Open(sight, count) => Lit {
-            light: shone(s, w, a, out, sight),
-            count,
-        },
+    let r = reach::reach_of(tree, ws, fs, s, a);
+    let light = r.sight.map_or(out, |g| shone(s, w, a, out, g));
+    Lit {
+        light,
+        count: r.count,
     }
 }
 
@@ -121,15 +138,5 @@ pub fn direct(tree: u32, ws: &Words, fs: &Floats, p: Vec3, n: Vec3, v: Vec3, m: 
 {
     let s = reach::site_of(p, n);
     let w = lobe::view_of(n, v, m);
-    let most = panels_in(ws);
-    let mut light = Vec3::splat(0.0);
-    let mut count: u32 = 0;
-    let mut j: u32 = 0;
-    while j < most {
-        let step = direct_step(tree, ws, fs, s, w, light, plan::light_in(fs, j));
-        light = step.light;
-        count += step.count;
-        j += 1;
-    }
-    Lit { light, count }
+    lights_by(ws, fs, |out, l| direct_step(tree, ws, fs, s, w, out, l))
 }

@@ -1,12 +1,12 @@
 -- A march to what a ray meets, over any field: what one evaluation does to it, how many there are, which points its
 -- answer rests on, and what a hit is. By one principle: induction on the evaluations left, by each one's outcome.
 -- Assumes nothing.
-use Prim.Native.Nat.{ℕ, zero, suc, ◌+◌, ◌-◌, ◌≤◌, ◌<◌}
+use Prim.Native.Nat.{ℕ, zero, suc, ◌+◌, ◌-◌, ◌≤◌}
 use mathlib.Core.Path.{◌≡◌, refl, sym, ap, ◌∙◌}
 use mathlib.Core.Bool.{Bool, true, false, cond}
 use mathlib.Core.List.{List, [], ◌∷◌}
+use Rattle.std.specs.Prelude.{Option, Some, None}
 use native.Mathlib.Nat.{add-zero, zero-add}
-use native.Mathlib.Numerals.{add-one}
 use native.Mathlib.Omega.{arith}
 use lib.ListN.{length}
 use lib.Ieee.{Float, lt}
@@ -18,7 +18,6 @@ use Rattle.trace.specs.declared.Hit.{Hit}
 use Rattle.trace.specs.declared.Step.{Step}
 use Rattle.trace.specs.declared.Step.TheVariants.{Found, Past, On}
 use Rattle.trace.specs.declared.Traced.{Traced}
-use Rattle.trace.specs.declared.Traced.TheVariants.{Met, Missed}
 use Rattle.trace.specs.Trace.{Field, trace_most, eps_of, point_at, stepped_of, step_at, follow, march, trace_of}
 use Rattle.trace.specs.Seen.{steps_in, march_points, trace_points}
 
@@ -31,6 +30,13 @@ pub record Surface (field : Field) (ro rd : Vec3) (h : Hit) : Type 0 where
   pub near : lt (field h.p).d (eps_of h.t) ≡ true
   pub material : h.mat ≡ (field h.p).mat
 
+-- the two answers after so many evaluations
+abbrev met : Hit → ℕ → Traced
+met h made = record { hit = Some h; count = made }
+
+abbrev missed : ℕ → Traced
+missed made = record { hit = None; count = made }
+
 module _ (field : Field) (ro rd : Vec3) (tmax : Float) where
   abbrev at : Float → Step
   at = step_at field ro rd tmax
@@ -38,42 +44,54 @@ module _ (field : Field) (ro rd : Vec3) (tmax : Float) where
   -- what a march comes to after an evaluation, and the points that follow: by its outcome
   abbrev going : ℕ → ℕ → Step → Traced
   going left made =
-      follow (λ (h : Hit). Met h made) (Missed made) (λ (next : Float). march field ro rd tmax left next made)
+      follow (λ (h : Hit). met h made) (missed made) (λ (next : Float). march field ro rd tmax left next made)
 
   abbrev onward : ℕ → Step → List Vec3
   onward left = follow (λ (h : Hit). []) [] (λ (next : Float). march_points field ro rd tmax left next)
 
-  -- ---- the code's loop: a turn, and its end
+  -- ---- the code's loop: a turn, the next one, and its end
   pub march_turn
-      : (t : Float) (steps : ℕ) (whole : Traced)
-      → steps < 128
-      → march field ro rd tmax (128 - steps) t steps ≡ whole
+      : (t : Float) (count : ℕ) (whole : Traced)
+      → 1 ≤ count
+      → count ≤ 128
+      → march field ro rd tmax (129 - count) t (count - 1) ≡ whole
       → (s : Step)
       → s ≡ at t
-      → going (128 - (steps + 1)) (steps + 1) s ≡ whole
+      → going (128 - count) count s ≡ whole
   unfolding march
-  march_turn t steps whole h e s q =
-      let l : 128 - steps ≡ suc (128 - (steps + 1)) = omega arith in
-      rw (q, add-one) (rw (l, add-one) at e)
+  march_turn t count whole g h e s q =
+      let l : 129 - count ≡ suc (128 - count) = omega arith in
+      let m : suc (count - 1) ≡ count = omega arith in
+      let turn : going (128 - count) (suc (count - 1)) (at t) ≡ whole = rw l at e in
+      rw q (rw m at turn)
+
+  pub march_next
+      : (t : Float) (count : ℕ) (whole : Traced)
+      → march field ro rd tmax (128 - count) t count ≡ whole
+      → march field ro rd tmax (129 - (count + 1)) t (count + 1 - 1) ≡ whole
+  march_next t count whole e =
+      let l : 129 - (count + 1) ≡ 128 - count = omega arith in
+      let m : count + 1 - 1 ≡ count = omega arith in
+      rw (l, m) e
 
   pub march_spent
-      : (t : Float) (steps : ℕ) (whole : Traced)
-      → 128 ≤ steps
-      → march field ro rd tmax (128 - steps) t steps ≡ whole
-      → Missed steps ≡ whole
+      : (t : Float) (count : ℕ) (whole : Traced)
+      → count ≡ 129
+      → march field ro rd tmax (129 - count) t (count - 1) ≡ whole
+      → missed 128 ≡ whole
   unfolding march
-  march_spent t steps whole h e = let l : 128 - steps ≡ 0 = omega arith in rw l at e
+  march_spent t count whole h e = rw h at e
 
   -- ---- what holds of every march and its points
   march_each
       : (P : ℕ → Float → ℕ → Traced → List Vec3 → Type 0)
-      → ((t : Float) (made : ℕ) → P 0 t made (Missed made) [])
+      → ((t : Float) (made : ℕ) → P 0 t made (missed made) [])
       → ((left : ℕ) (t : Float) (made : ℕ) (h : Hit)
       → at t ≡ Found h
-      → P (suc left) t made (Met h (suc made)) (point_at ro rd t ∷ []))
+      → P (suc left) t made (met h (suc made)) (point_at ro rd t ∷ []))
       → ((left : ℕ) (t : Float) (made : ℕ)
       → at t ≡ Past
-      → P (suc left) t made (Missed (suc made)) (point_at ro rd t ∷ []))
+      → P (suc left) t made (missed (suc made)) (point_at ro rd t ∷ []))
       → ((left : ℕ) (t : Float) (made : ℕ) (next : Float) (x : Traced) (ps : List Vec3)
       → at t ≡ On next
       → P left next (suc made) x ps
@@ -134,18 +152,22 @@ module _ (field : Field) (ro rd : Vec3) (tmin tmax : Float) where
       (λ left _ _ _ _ ps _ ih. omega arith)
       128 tmin 0
 
-  pub trace_hit : (h : Hit) (n : ℕ) → trace_of field ro rd tmin tmax ≡ Met h n → Surface field ro rd h
+  pub trace_hit : (h : Hit) (n : ℕ) → trace_of field ro rd tmin tmax ≡ record { hit = Some h; count = n }
+      → Surface field ro rd h
   unfolding trace_of
   trace_hit h n =
-      march_each field ro rd tmax (λ _ _ _ x _. x ≡ Met h n → Surface field ro rd h)
+      march_each field ro rd tmax (λ _ _ _ x _. x ≡ met h n → Surface field ro rd h)
       (λ _ _ e. no e)
-      (λ _ t _ g e q. let i : g ≡ h = cc in found_is field ro rd tmax t h (e ∙ ap Found i))
+      (λ _ t _ g e q. found_is field ro rd tmax t h (e ∙ ap Found (same q)))
       (λ _ _ _ _ e. no e)
       (λ _ _ _ _ _ _ _ ih. ih)
       128 tmin 0
     where
-      no : {m : ℕ} → Missed m ≡ Met h n → Surface field ro rd h
-      no e = never (cc)
+      no : {m : ℕ} → missed m ≡ met h n → Surface field ro rd h
+      no e = let o : ◌≡◌ {A = Option Hit} None (Some h) = ap (λ (x : Traced). x.hit) e in never (cc)
+
+      same : {g : Hit} {m : ℕ} → met g m ≡ met h n → g ≡ h
+      same e = let o : ◌≡◌ {A = Option Hit} (Some _) (Some h) = ap (λ (x : Traced). x.hit) e in cc
 
 -- two fields that agree on the points
 pub trace_agrees

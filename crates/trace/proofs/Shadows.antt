@@ -5,6 +5,7 @@ use Prim.Native.Nat.{ℕ, zero, suc, ◌+◌, ◌-◌, ◌≤◌, ◌<◌}
 use mathlib.Core.Path.{◌≡◌, refl, sym, ◌∙◌}
 use mathlib.Core.Bool.{Bool, true, false, cond}
 use mathlib.Core.List.{List, [], ◌∷◌}
+use Rattle.std.specs.Prelude.{Option, Some, None}
 use native.Mathlib.Nat.{add-zero, zero-add}
 use native.Mathlib.Numerals.{add-one}
 use native.Mathlib.Omega.{arith}
@@ -19,8 +20,6 @@ use Rattle.float_order.proofs.Extremes.{fmin_left}
 use Rattle.words.specs.Lists.{All}
 use Rattle.vectors.specs.declared.Vec3.{Vec3}
 use Rattle.trace.specs.declared.Cone.{Cone}
-use Rattle.trace.specs.declared.Passed.{Passed}
-use Rattle.trace.specs.declared.Passed.TheVariants.{Dark, Going}
 use Rattle.trace.specs.declared.Shadow.{Shadow}
 use Rattle.trace.specs.Trace.{Field, point_at}
 use Rattle.trace.specs.Shadow.{shadow_most, darker_of, passed_of, seen_of, pass, pass_at, cone_march, cone_from}
@@ -57,7 +56,7 @@ unit = tt
 -- what is left of the light stays a number
 going_number
     : (c : Cone) (h k : Float) (next : Cone)
-    → passed_of c h k ≡ Going next
+    → passed_of c h k ≡ Some next
     → T (number c.res)
     → T (number next.res)
 unfolding passed_of darker_of
@@ -66,35 +65,35 @@ going_number c h k next q n = go (lt h f1e_4) (lt (darker_of c h k) f1e_3) q
     on : Cone
     on = record { res = darker_of c h k; ph = h; t = c.t ⊕ clamp_of h f0·006 f0·12 }
 
-    go : (b e : Bool) → cond b Dark (cond e Dark (Going on)) ≡ Going next → T (number next.res)
+    go : (b e : Bool) → cond b None (cond e None (Some on)) ≡ Some next → T (number next.res)
     go true e q = never (cc)
     go false true q = never (cc)
     go false false q = let i : next ≡ on = cc in rw i (le_left _ c.res (fmin_left c.res _ n))
 
 module _ (field : Field) (ro rd : Vec3) (tmax k : Float) where
-  abbrev at : Cone → Passed
+  abbrev at : Cone → Option Cone
   at = pass_at field ro rd k
 
   -- what a march comes to after an evaluation, and the points that follow: by its outcome
-  abbrev after : ℕ → ℕ → Passed → Shadow
+  abbrev after : ℕ → ℕ → Option Cone → Shadow
   after left made =
       pass (record { vis = f0; count = made }) (λ (next : Cone). cone_march field ro rd tmax k left next made)
 
-  abbrev onward : ℕ → Passed → List Vec3
+  abbrev onward : ℕ → Option Cone → List Vec3
   onward left = pass [] (λ (next : Cone). cone_points field ro rd tmax k left next)
 
   -- ---- the code's loop: a turn, and its two ends
   pub cone_turn
-      : (c : Cone) (steps : ℕ) (whole : Shadow)
-      → steps < 96
+      : (c : Cone) (made : ℕ) (whole : Shadow)
+      → made < 96
       → lt c.t tmax ≡ true
-      → cone_march field ro rd tmax k (96 - steps) c steps ≡ whole
-      → (s : Passed)
+      → cone_march field ro rd tmax k (96 - made) c made ≡ whole
+      → (s : Option Cone)
       → s ≡ at c
-      → after (96 - (steps + 1)) (steps + 1) s ≡ whole
+      → after (96 - (made + 1)) (made + 1) s ≡ whole
   unfolding cone_march
-  cone_turn c steps whole h b e s q =
-      let l : 96 - steps ≡ suc (96 - (steps + 1)) = omega arith in
+  cone_turn c made whole h b e s q =
+      let l : 96 - made ≡ suc (96 - (made + 1)) = omega arith in
       rw (q, add-one) (rw (l, b, add-one) at e)
 
   pub cone_past
@@ -107,12 +106,12 @@ module _ (field : Field) (ro rd : Vec3) (tmax k : Float) where
   cone_past (suc left) c made whole b e = rw b at e
 
   pub cone_spent
-      : (c : Cone) (steps : ℕ) (whole : Shadow)
-      → 96 ≤ steps
-      → cone_march field ro rd tmax k (96 - steps) c steps ≡ whole
-      → seen_of c.res steps ≡ whole
+      : (c : Cone) (made : ℕ) (whole : Shadow)
+      → made ≡ 96
+      → cone_march field ro rd tmax k (96 - made) c made ≡ whole
+      → seen_of c.res 96 ≡ whole
   unfolding cone_march
-  cone_spent c steps whole h e = let l : 96 - steps ≡ 0 = omega arith in rw l at e
+  cone_spent c made whole h e = rw h at e
 
   -- ---- what holds of every march and its points
   cone_each
@@ -122,11 +121,11 @@ module _ (field : Field) (ro rd : Vec3) (tmax k : Float) where
       (seen_of c.res made) [])
       → ((left : ℕ) (c : Cone) (made : ℕ)
       → lt c.t tmax ≡ true
-      → at c ≡ Dark
+      → at c ≡ None
       → P (suc left) c made (record { vis = f0; count = suc made }) (point_at ro rd c.t ∷ []))
       → ((left : ℕ) (c : Cone) (made : ℕ) (next : Cone) (x : Shadow) (ps : List Vec3)
       → lt c.t tmax ≡ true
-      → at c ≡ Going next
+      → at c ≡ Some next
       → P left next (suc made) x ps
       → P (suc left) c made x (point_at ro rd c.t ∷ ps))
       → (left : ℕ) (c : Cone) (made : ℕ)
@@ -141,10 +140,10 @@ module _ (field : Field) (ro rd : Vec3) (tmax k : Float) where
       (cond b (point_at ro rd c.t ∷ onward left (at c)) [])) [
         | true ↦ λ b.
             elim (at c) as
-            (λ (s : Passed).
+            (λ (s : Option Cone).
             at c ≡ s → P (suc left) c made (after left (suc made) s) (point_at ro rd c.t ∷ onward left s)) [
-              | Dark ↦ dark left c made b
-              | Going n ↦ λ e. on left c made n _ _ b e (cone_each P spent past dark on left n (suc made))
+              | None ↦ dark left c made b
+              | Some n ↦ λ e. on left c made n _ _ b e (cone_each P spent past dark on left n (suc made))
             ]
             refl
         | false ↦ past left c made

@@ -4,14 +4,12 @@ use Rattle.std.specs.Float.Ieee.{lt}
 use Rattle.vectors.specs.declared.Vec3.{Vec3}
 use Rattle.trace.specs.declared.Hit.{Hit}
 use Rattle.trace.specs.declared.Traced.{Traced}
-use Rattle.trace.specs.declared.Traced.TheVariants.{Met, Missed}
 use Rattle.trace.specs.declared.Cone.{Cone}
 use Rattle.trace.specs.Trace.{Field, trace_most, point_at, step_at, follow}
 use Rattle.trace.specs.Shadow.{shadow_most, pass_at, pass, cone_from}
 
 abbrev pub steps_in : Traced → ℕ
-steps_in (Met h n) = n
-steps_in (Missed n) = n
+steps_in x = x.count
 
 unfoldable pub march_points : Field → Vec3 → Vec3 → Float → ℕ → Float → List Vec3
 march_points field ro rd tmax zero t = []

@@ -1,14 +1,12 @@
 -- "`soft_shadow`: at most 96; 0 below 1e-4 of distance or 1e-3 of visibility; when receding, y = 0 and d = h;
 -- visibility always lies in 0 to 1." Over any field.
-use Rattle.std.specs.Prelude.{ℕ, zero, suc, cond, Float}
+use Rattle.std.specs.Prelude.{ℕ, zero, suc, cond, Option, Some, None, Float}
 use Rattle.std.specs.Float.Ieee.{lt}
 use Rattle.root.specs.Root.{root_of}
 use Rattle.scalar.specs.F32.{◌⊕◌, ◌⊖◌, ◌⊗◌, ◌⊘◌, f0, f1, f2, f0·006, f0·12, f1e20, f1e_3, f1e_4}
 use Rattle.scalar.specs.Extremes.{fmin, fmax, clamp_of}
 use Rattle.vectors.specs.declared.Vec3.{Vec3}
 use Rattle.trace.specs.declared.Cone.{Cone}
-use Rattle.trace.specs.declared.Passed.{Passed}
-use Rattle.trace.specs.declared.Passed.TheVariants.{Dark, Going}
 use Rattle.trace.specs.declared.Shadow.{Shadow}
 use Rattle.trace.specs.Trace.{Field, point_at}
 
@@ -31,20 +29,20 @@ gap_of h ph =
 unfoldable pub darker_of : Cone → Float → Float → Float  -- what is left of the light after the distance h
 darker_of c h k = let g = gap_of h c.ph in fmin c.res (k ⊗ g.d ⊘ fmax (c.t ⊖ g.y) f1e_4)
 
-unfoldable pub passed_of : Cone → Float → Float → Passed
+unfoldable pub passed_of : Cone → Float → Float → Option Cone
 passed_of c h k =
-    cond (lt h f1e_4) Dark
-    (cond (lt (darker_of c h k) f1e_3) Dark
-    (Going (record { res = darker_of c h k; ph = h; t = c.t ⊕ clamp_of h f0·006 f0·12 })))
+    cond (lt h f1e_4) None
+    (cond (lt (darker_of c h k) f1e_3) None
+    (Some (record { res = darker_of c h k; ph = h; t = c.t ⊕ clamp_of h f0·006 f0·12 })))
 
 unfoldable pub seen_of : Float → ℕ → Shadow
 seen_of res made = record { vis = clamp_of res f0 f1; count = made }
 
-unfoldable pub pass : {A : Type 0} → A → (Cone → A) → Passed → A  -- by an evaluation's outcome
-pass dark going Dark = dark
-pass dark going (Going c) = going c
+unfoldable pub pass : {A : Type 0} → A → (Cone → A) → Option Cone → A  -- by an evaluation's outcome
+pass dark going None = dark
+pass dark going (Some c) = going c
 
-abbrev pub pass_at : Field → Vec3 → Vec3 → Float → Cone → Passed
+abbrev pub pass_at : Field → Vec3 → Vec3 → Float → Cone → Option Cone
 pass_at field ro rd k c = passed_of c (field (point_at ro rd c.t)).d k
 
 -- a march with so many evaluations left, after `made`; the end is tested before each

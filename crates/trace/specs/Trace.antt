@@ -1,6 +1,6 @@
 -- "`trace`: at most 128 evaluations, hit when the distance is below 1e-4 times max(t, 1). The count is evaluations
 -- made." Over any field, a function from points to nearest hits.
-use Rattle.std.specs.Prelude.{ℕ, zero, suc, cond, Float}
+use Rattle.std.specs.Prelude.{ℕ, zero, suc, cond, Some, None, Float}
 use Rattle.std.specs.Float.Ieee.{lt}
 use Rattle.scalar.specs.F32.{◌⊕◌, ◌⊗◌, f1, f1e_4}
 use Rattle.scalar.specs.Extremes.{fmax}
@@ -11,7 +11,6 @@ use Rattle.trace.specs.declared.Hit.{Hit}
 use Rattle.trace.specs.declared.Step.{Step}
 use Rattle.trace.specs.declared.Step.TheVariants.{Found, Past, On}
 use Rattle.trace.specs.declared.Traced.{Traced}
-use Rattle.trace.specs.declared.Traced.TheVariants.{Met, Missed}
 
 abbrev pub Field : Type 0
 Field = Vec3 → DistHit
@@ -41,9 +40,9 @@ follow found past on (On t) = on t
 
 -- a march from t with so many evaluations left, after `made`
 unfoldable pub march : Field → Vec3 → Vec3 → Float → ℕ → Float → ℕ → Traced
-march field ro rd tmax zero t made = Missed made
+march field ro rd tmax zero t made = record { hit = None; count = made }
 march field ro rd tmax (suc left) t made =
-    follow (λ (h : Hit). Met h (suc made)) (Missed (suc made))
+    follow (λ (h : Hit). record { hit = Some h; count = suc made }) (record { hit = None; count = suc made })
     (λ (next : Float). march field ro rd tmax left next (suc made))
     (step_at field ro rd tmax t)
 

@@ -1,4 +1,5 @@
 // Marches through a plan's field, by the tree or by the list: to what a ray meets, and to how much of a light is seen.
+// `tree` is a number, as callers have it: an enum would ask more of them.
 
 #![tactic(auto)]
 
@@ -17,6 +18,24 @@ pub const MAX_STEPS: u32 = 128;
 
 pub const SHADOW_STEPS: u32 = 96;
 
+// A ray from tmin to tmax; rd may have any length.
+#[derive(Clone, Copy)]
+pub struct Ray {
+    pub ro: Vec3,
+    pub rd: Vec3,
+    pub tmin: f32,
+    pub tmax: f32,
+}
+
+impl Ray {
+    #[tactic(auto, unfolding(crate::specs::Trace::point_at))]
+    fn point_at(self, t: f32) -> Vec3
+        ensures { result ≡ point_at self.ro self.rd t }
+    {
+        self.ro.add(self.rd.scale(t))
+    }
+}
+
 #[derive(Clone, Copy)]
 pub struct Hit {
     pub t: f32,
@@ -24,11 +43,11 @@ pub struct Hit {
     pub mat: u32,
 }
 
-// What a ray meets, and how many evaluations that took.
+// What a ray meets, if it meets anything, and how many evaluations that took.
 #[derive(Clone, Copy)]
-pub enum Traced {
-    Met(Hit, u32),
-    Missed(u32),
+pub struct Traced {
+    pub hit: Option<Hit>,
+    pub count: u32,
 }
 
 // One evaluation's outcome: a hit, past the end, or on from a parameter.
@@ -54,25 +73,15 @@ pub struct Cone {
     pub t: f32,
 }
 
-#[derive(Clone, Copy)]
-pub enum Passed {
-    Dark,
-    Going(Cone),
-}
-
+#[tactic(auto, unfolding(crate::specs::Trace::eps_of))]
 fn eps(t: f32) -> f32
     ensures { result ≡ eps_of t }
 {
     0.0001 * scalar::max(t, 1.0)
 }
 
-fn point_at(ro: Vec3, rd: Vec3, t: f32) -> Vec3
-    ensures { result ≡ point_at ro rd t }
-{
-    ro.add(rd.scale(t))
-}
-
 // The hit is tested before the end.
+#[tactic(auto, unfolding(crate::specs::Trace::stepped_of))]
 fn stepped(h: DistHit, p: Vec3, t: f32, tmax: f32) -> Step
     ensures { result ≡ stepped_of h p t tmax }
 {
@@ -87,24 +96,27 @@ fn stepped(h: DistHit, p: Vec3, t: f32, tmax: f32) -> Step
 }
 
 // It evaluates once even where tmin is above tmax.
-pub fn trace(tree: u32, ws: &Words, fs: &Floats, ro: Vec3, rd: Vec3, tmin: f32, tmax: f32) -> Traced
-    ensures { result ≡ trace_of (field_by tree ws.now fs.now) ro rd tmin tmax }
+pub fn trace(tree: u32, ws: &Words, fs: &Floats, ray: Ray) -> Traced
+    ensures { result ≡ trace_of (field_by tree ws.now fs.now) ray.ro ray.rd ray.tmin ray.tmax }
 {
-    let mut t = tmin;
-    let mut steps: u32 = 0;
-    let mut stack = [0u32; bvh_search::STACK];
-    let mut keys = [0.0f64; bvh_search::STACK];
-    while steps < MAX_STEPS {
-        let p = point_at(ro, rd, t);
-        let h = bvh_search::field(tree, ws, fs, &mut stack, &mut keys, p);
-        steps += 1;
-        match stepped(h, p, t, tmax) {
-            Step::Found(hit) => return Traced::Met(hit, steps),
-            Step::Past => return Traced::Missed(steps),
+    let mut t = ray.tmin;
+    let mut stack = [bvh_search::FREE; bvh_search::STACK];
+    for count in 1..=MAX_STEPS {
+        let p = ray.point_at(t);
+        let h = bvh_search::field(tree, ws, fs, &mut stack, p);
+        match stepped(h, p, t, ray.tmax) {
+            Step::Found(hit) => return Traced {
+                hit: Some(hit),
+                count,
+            },
+            Step::Past => return Traced { hit: None, count },
             Step::On(next) => t = next,
         }
     }
-    Traced::Missed(steps)
+    Traced {
+        hit: None,
+        count: MAX_STEPS,
+    }
 }
 
 // Whether k * root(q) / m leaves no less of the light than res, by a guess w of the root. A `false` tells nothing.
@@ -136,6 +148,7 @@ fn dimmed(res: f32, q: f32, k: f32, m: f32, w: f32) -> f32
 
 // What is left of the light after the distance h. Receding, the nearest was the sample before. Else y is at most half
 // of h, so that the root is at least 0.866 of h.
+#[tactic(auto, unfolding(crate::specs::Shadow::darker_of, crate::specs::Shadow::gap_of))]
 fn darker(c: Cone, h: f32, k: f32) -> f32
     ensures { result ≡ darker_of c h k }
 {
@@ -147,67 +160,57 @@ fn darker(c: Cone, h: f32, k: f32) -> f32
     scalar::min(c.res, k * h / scalar::max(c.t - 0.0, 0.0001))
 }
 
-fn passed_of(c: Cone, h: f32, k: f32) -> Passed
+// The march after the distance h; none where no light is left.
+#[tactic(auto, unfolding(crate::specs::Shadow::passed_of))]
+fn passed_of(c: Cone, h: f32, k: f32) -> Option<Cone>
     ensures { result ≡ passed_of c h k }
 {
     if h < 0.0001 {
-        return Passed::Dark;
+        return None;
     }
     let res = darker(c, h, k);
     if res < 0.001 {
-        return Passed::Dark;
+        return None;
     }
-    Passed::Going(Cone {
+    Some(Cone {
         res,
         ph: h,
         t: c.t + scalar::clamp(h, 0.006, 0.12),
     })
 }
 
-pub fn soft_shadow(
-    tree: u32,
-    ws: &Words,
-    fs: &Floats,
-    ro: Vec3,
-    rd: Vec3,
-    tmin: f32,
-    tmax: f32,
-    k: f32,
-) -> Shadow
-    ensures { result ≡ shadow_of (field_by tree ws.now fs.now) ro rd tmin tmax k }
+pub fn soft_shadow(tree: u32, ws: &Words, fs: &Floats, ray: Ray, k: f32) -> Shadow
+    ensures { result ≡ shadow_of (field_by tree ws.now fs.now) ray.ro ray.rd ray.tmin ray.tmax k }
 {
     let mut c = Cone {
         res: 1.0,
         ph: 1e20,
-        t: tmin,
+        t: ray.tmin,
     };
-    let mut steps: u32 = 0;
-    let mut stack = [0u32; bvh_search::STACK];
-    let mut keys = [0.0f64; bvh_search::STACK];
-    while steps < SHADOW_STEPS {
-        if c.t < tmax {
-            let p = point_at(ro, rd, c.t);
-            let h = bvh_search::field(tree, ws, fs, &mut stack, &mut keys, p);
-            steps += 1;
-            match passed_of(c, h.d, k) {
-                Passed::Dark => return Shadow {
-                    vis: 0.0,
-                    count: steps,
-                },
-                Passed::Going(next) => c = next,
-            }
-        } else {
-            return seen(c.res, steps);
+    let mut stack = [bvh_search::FREE; bvh_search::STACK];
+    for made in 0..SHADOW_STEPS {
+        if !(c.t < ray.tmax) {
+            return seen(c.res, made);
         }
+        let p = ray.point_at(c.t);
+        let h = bvh_search::field(tree, ws, fs, &mut stack, p);
+        let Some(next) = passed_of(c, h.d, k) else {
+            return Shadow {
+                vis: 0.0,
+                count: made + 1,
+            };
+        };
+        c = next;
     }
-    seen(c.res, steps)
+    seen(c.res, SHADOW_STEPS)
 }
 
-fn seen(res: f32, steps: u32) -> Shadow
-    ensures { result ≡ seen_of res steps }
+#[tactic(auto, unfolding(crate::specs::Shadow::seen_of))]
+fn seen(res: f32, count: u32) -> Shadow
+    ensures { result ≡ seen_of res count }
 {
     Shadow {
         vis: scalar::clamp(res, 0.0, 1.0),
-        count: steps,
+        count,
     }
 }

@@ -1,5 +1,4 @@
--- What the loops of `bemitondry_emitter::emitter_in` keep, and what falls.
-use Prim.Native.Nat.{◌≤◌, ◌-◌}
+-- What the loop of `bemitondry_emitter::emitter_in` keeps.
 use mathlib.Core.Path.{◌≡◌}
 use Rattle.words.specs.Lists.{list_from}
 use Rattle.emitter.specs.Emitter.{emitter_of}
@@ -7,7 +6,4 @@ use Rattle.bemitondry_emitter.specs.Emitter.{lent_light}
 use Rattle.bemitondry_emitter.proofs.emitter_in.Given as goal
 
 abbrev pub invariant-loop-i : goal.invariant-loop-i
-invariant-loop-i l = (l.i ≤ l.n) × (l.best ≡ emitter_of (list_from (lent_light l.b) 0 l.i) l.ro l.rd l.tmax)
-
-abbrev pub decreases-loop-i : goal.decreases-loop-i
-decreases-loop-i l = l.n - l.i
+invariant-loop-i l = l.best ≡ emitter_of (list_from (lent_light l.b) 0 l.i) l.aim.ro l.aim.rd l.aim.tmax

@@ -11,6 +11,6 @@ pub returns-then-records_ok : goal.returns-then-records_ok
 unfolding records_in
 returns-then-records_ok c = rw (sym c.records_ok.ensures, c.if-records_ok.true)
 
-pub returns : goal.returns
+pub returns-else-records_ok : goal.returns-else-records_ok
 unfolding records_in
-returns c = rw (sym c.records_ok.ensures, c.if-records_ok.false)
+returns-else-records_ok c = rw (sym c.records_ok.ensures, c.if-records_ok.false)

@@ -9,6 +9,7 @@ use Rattle.plan.specs.declared.QuadLight.{QuadLight}
 use Rattle.refusals.specs.Refusals.{lower, lowest_of}
 use Rattle.refusals.proofs.Lowest.{unless_zero, lower_zero, lower_none}
 use Rattle.record_test.specs.Numbers.{light_number}
+use Rattle.std.specs.Prelude.{Option}
 use Rattle.emitter.specs.declared.Emitted.{Emitted}
 use Rattle.emitter.specs.Emitter.{emitter_of}
 use Rattle.reply.specs.declared.Reply.{Reply}
@@ -33,18 +34,18 @@ module _ (ys : List QuadLight) (ro rd : Vec3) (tmax : Float) where
       let m : few (length ys) ≡ false = lt-leb (length ys) 16 h in
       rw (g, e, m, lower_none (asked_number (length ys) ro rd tmax)) (sym (refuses _ (asked_many m) _))
 
-  few_is : (a m k : ℕ) (e : Emitted) (r : Reply) → length ys ≤ 16
+  few_is : (a m k : ℕ) (e : Option Emitted) (t r : Reply) → length ys ≤ 16
       → a ≡ asked_number (length ys) ro rd tmax → m ≡ lowest_of light_number ys → k ≡ lower a m
-      → e ≡ emitter_of ys ro rd tmax → r ≡ reply_of k (emitted_reply e) → r ≡ list_reply ys ro rd tmax
+      → e ≡ emitter_of ys ro rd tmax → t ≡ emitted_reply e → r ≡ reply_of k t → r ≡ list_reply ys ro rd tmax
   unfolding few judged list_number list_reply
-  few_is a m k e r h ea em ek ee er =
+  few_is a m k e t r h ea em ek ee et er =
       let s : few (length ys) ≡ true = le-leb (length ys) 16 h in
-      rw (s, er, ek, ea, em, ee)
+      rw (s, er, et, ek, ea, em, ee)
 
 pub returns-then-n-gt16 : goal.returns-then-n-gt16
 returns-then-n-gt16 c = many_is _ _ _ _ _ _ c.if-n-gt16.true c.asked_number-asked.ensures c.refused.ensures
 
 pub returns : goal.returns
 returns c =
-    few_is _ _ _ _ _ _ _ _ _ (omega arith) c.asked_number-asked.ensures c.lights_number.ensures c.lower-number.ensures
-    c.emitter_among-best.ensures c.answer.ensures
+    few_is _ _ _ _ _ _ _ _ _ _ (omega arith) c.asked_number-asked.ensures c.lights_number.ensures c.lower-number.ensures
+    c.emitter_among-best.ensures c.emitted_reply.ensures c.reply_of.ensures

@@ -4,5 +4,4 @@ use Rattle.ltc.proofs.clip_to_horizon.Goals as goal
 
 pub returns : goal.returns
 returns c =
-    four c.args.q c.none.ensures c.clip_edge-c.ensures
-    c.clip_edge-c-2.ensures c.clip_edge-c-3.ensures c.clip_edge.ensures
+    four c.args.q c.none-c.ensures c.clip_edge.ensures c.clip_edge-2.ensures c.clip_edge-3.ensures c.clip_edge-4.ensures

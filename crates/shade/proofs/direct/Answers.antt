@@ -1,35 +1,24 @@
--- `shade::direct` meets its contract: the light and the count so far are those of the lights passed. Assumes nothing.
+-- `shade::direct` meets its contract: each turn is a step. Assumes nothing.
+use borrow.Author.Rules.{rules}
 use mathlib.Core.Path.{◌≡◌, sym}
-use native.Mathlib.Omega.{arith}
-use Rattle.shade.specs.Direct.{direct_of}
-use Rattle.shade.proofs.Lights.{lights_taken, panels_few, lit_none, lit_more, lit_fits, step_most}
+use Rattle.bvh_search.specs.Field.{field_by}
+use Rattle.shade.specs.Direct.{direct_step, direct_of}
+use Rattle.shade.proofs.Lights.{step_most}
 use Rattle.shade.proofs.direct.Goals as goal
 
-pub loop-j-init : goal.loop-j-init
-loop-j-init c = (omega arith, lit_none _ _ _)
-
-pub overflow_add-count : goal.overflow_add-count
-overflow_add-count c =
-    lit_fits _ _ _ c.loop-j.j _ c.direct_step-step.result c.loop-j.invariant.1
-    (rw (c.direct_step-step.ensures, c.light_in.ensures)) (step_most _ _ _)
-    (omega (arith, panels_few c.args.ws.now, c.panels_in-most.ensures))
-
-pub loop-j-preserved : goal.loop-j-preserved
-loop-j-preserved c =
-    let l = c.loop-j in (
-      omega arith,
-      lit_more _ _ _ l.j _ c.direct_step-step.result l.invariant.1 (rw (c.direct_step-step.ensures, c.light_in.ensures)),
-    )
+pub lights_by-requires-clause-few : goal.lights_by-requires-clause-few
+lights_by-requires-clause-few c = λ out l r p.
+    let a = c.args in
+    let s = c.site_of-s.result in
+    let w = c.view_of-w.result in
+    let e : r ≡ direct_step (field_by a.tree a.ws.now a.fs.now) s w out l = search rules in
+    rw e (step_most _ _ _ _ _)
 
 pub returns : goal.returns
 unfolding direct_of
 returns c =
-    let e : c.panels_in-most.result ≡ c.loop-j.j = omega arith in
-    rw (
-      lights_taken,
-      sym c.panels_in-most.ensures,
-      e,
-      sym c.site_of-s.ensures,
-      sym c.view_of-w.ensures,
-      sym c.splat-light.ensures,
-    ) c.loop-j.invariant.1
+    let a = c.args in
+    let s = c.site_of-s.result in
+    let w = c.view_of-w.result in
+    rw (sym c.site_of-s.ensures, sym c.view_of-w.ensures)
+    (c.lights_by.ensures (direct_step (field_by a.tree a.ws.now a.fs.now) s w) (λ out l r p. search rules))

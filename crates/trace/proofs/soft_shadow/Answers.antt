@@ -3,33 +3,31 @@
 use Prim.Native.Nat.{◌-◌}
 use mathlib.Core.Path.{refl, ◌∙◌}
 use native.Mathlib.Omega.{arith}
-use Rattle.trace.specs.declared.Passed.TheVariants.{Dark, Going}
+use Rattle.std.specs.Prelude.{Some, None}
 use Rattle.trace.specs.Shadow.{pass, shadow_of}
 use Rattle.trace.proofs.Shadows.{cone_turn, cone_past, cone_spent}
 use Rattle.trace.proofs.soft_shadow.Goals as goal
 
-pub loop-steps-init : goal.loop-steps-init
+pub loop-made-init : goal.loop-made-init
 unfolding shadow_of
-loop-steps-init c = (omega arith, refl)
+loop-made-init c = refl
 
-pub returns-in-Dark : goal.returns-in-Dark
+pub returns-then-not-c-ray : goal.returns-then-not-c-ray
+returns-then-not-c-ray c =
+    let l = c.loop-made in
+    c.seen.ensures ∙ cone_past _ _ _ _ _ (96 - l.made) l.c l.made _ c.if-not-c-ray.true l.invariant
+
+pub returns-in_default : goal.returns-in_default
 unfolding pass
-returns-in-Dark c =
-    let l = c.loop-steps in
-    cone_turn _ _ _ _ _ _ l.steps _ (omega arith) c.if-c-tmax.true l.invariant.1 Dark (cc)
+returns-in_default c =
+    let l = c.loop-made in
+    cone_turn _ _ _ _ _ _ l.made _ (omega arith) c.if-not-c-ray.false l.invariant None (cc)
 
-pub loop-steps-preserved : goal.loop-steps-preserved
+pub loop-made-preserved : goal.loop-made-preserved
 unfolding pass
-loop-steps-preserved c =
-    let l = c.loop-steps in
-    (omega arith, cone_turn _ _ _ _ _ _ l.steps _ (omega arith) c.if-c-tmax.true l.invariant.1 (Going _) (cc))
-
-pub returns-else-c-tmax : goal.returns-else-c-tmax
-returns-else-c-tmax c =
-    let l = c.loop-steps in
-    c.seen.ensures ∙ cone_past _ _ _ _ _ (96 - l.steps) l.c l.steps _ c.if-c-tmax.false l.invariant.1
+loop-made-preserved c =
+    let l = c.loop-made in
+    cone_turn _ _ _ _ _ _ l.made _ (omega arith) c.if-not-c-ray.false l.invariant (Some _) (cc)
 
 pub returns : goal.returns
-returns c =
-    let l = c.loop-steps in
-    c.seen-2.ensures ∙ cone_spent _ _ _ _ _ l.c l.steps _ (omega arith) l.invariant.1
+returns c = let l = c.loop-made in c.seen-2.ensures ∙ cone_spent _ _ _ _ _ l.c l.made _ (omega arith) l.invariant

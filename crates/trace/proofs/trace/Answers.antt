@@ -4,30 +4,31 @@ use mathlib.Core.Path.{refl}
 use native.Mathlib.Omega.{arith}
 use Rattle.trace.specs.declared.Step.TheVariants.{Found, Past, On}
 use Rattle.trace.specs.Trace.{follow, trace_of}
-use Rattle.trace.proofs.Marches.{march_turn, march_spent}
+use Rattle.trace.proofs.Marches.{march_turn, march_next, march_spent}
 use Rattle.trace.proofs.trace.Goals as goal
 
-pub loop-steps-init : goal.loop-steps-init
+pub loop-count-init : goal.loop-count-init
 unfolding trace_of
-loop-steps-init c = (omega arith, refl)
+loop-count-init c = refl
 
 pub returns-in-Found : goal.returns-in-Found
 unfolding follow
 returns-in-Found c =
-    let l = c.loop-steps in
-    march_turn _ _ _ _ _ l.steps _ (omega arith) l.invariant.1 (Found _) (cc)
+    let l = c.loop-count in
+    march_turn _ _ _ _ _ l.count _ (omega arith) (omega arith) l.invariant (Found _) (cc)
 
 pub returns-in-Past : goal.returns-in-Past
 unfolding follow
 returns-in-Past c =
-    let l = c.loop-steps in
-    march_turn _ _ _ _ _ l.steps _ (omega arith) l.invariant.1 Past (cc)
+    let l = c.loop-count in
+    march_turn _ _ _ _ _ l.count _ (omega arith) (omega arith) l.invariant Past (cc)
 
-pub loop-steps-preserved : goal.loop-steps-preserved
+pub loop-count-preserved : goal.loop-count-preserved
 unfolding follow
-loop-steps-preserved c =
-    let l = c.loop-steps in
-    (omega arith, march_turn _ _ _ _ _ l.steps _ (omega arith) l.invariant.1 (On _) (cc))
+loop-count-preserved c =
+    let l = c.loop-count in
+    march_next _ _ _ _ _ l.count _
+    (march_turn _ _ _ _ _ l.count _ (omega arith) (omega arith) l.invariant (On _) (cc))
 
 pub returns : goal.returns
-returns c = let l = c.loop-steps in march_spent _ _ _ _ l.t l.steps _ (omega arith) l.invariant.1
+returns c = let l = c.loop-count in march_spent _ _ _ _ l.t l.count _ (omega arith) l.invariant

@@ -1,14 +1,11 @@
--- What the loops of `trace::trace` keep, and what falls.
-use Prim.Native.Nat.{◌≤◌, ◌-◌}
+-- What the loop of `trace::trace` keeps.
+use Prim.Native.Nat.{◌-◌}
 use mathlib.Core.Path.{◌≡◌}
 use Rattle.bvh_search.specs.Field.{field_by}
 use Rattle.trace.specs.Trace.{march, trace_of}
 use Rattle.trace.proofs.trace.Given as goal
 
-abbrev pub invariant-loop-steps : goal.invariant-loop-steps
-invariant-loop-steps l =
-    (l.steps ≤ 128)
-    × (march (field_by l.tree l.ws l.fs) l.ro l.rd l.tmax (128 - l.steps) l.t l.steps ≡ trace_of (field_by l.tree l.ws l.fs) l.ro l.rd l.tmin l.tmax)
-
-abbrev pub decreases-loop-steps : goal.decreases-loop-steps
-decreases-loop-steps l = 128 - l.steps
+abbrev pub invariant-loop-count : goal.invariant-loop-count
+invariant-loop-count l =
+    march (field_by l.tree l.ws l.fs) l.ray.ro l.ray.rd l.ray.tmax (129 - l.count) l.t (l.count - 1)
+    ≡ trace_of (field_by l.tree l.ws l.fs) l.ray.ro l.ray.rd l.ray.tmin l.ray.tmax
