@@ -6,8 +6,8 @@ use mathlib.Core.List.{List}
 use lib.ListN.{length}
 use lib.Dec.{eqb, eqb-suc-zero}
 use lib.Ieee.{Float}
-use Rattle.sdf.specs.declared.Bounds.{Bounds}
-use Rattle.sdf.specs.declared.Bounds.TheVariants.{Within, Unbounded}
+use Rattle.sdf.specs.declared.Aabb.{Aabb}
+use Rattle.std.specs.Prelude.{Option, Some, None}
 use Rattle.sdf.specs.Boxes.{bounds_of}
 use Rattle.words.specs.Lists.{All}
 use Rattle.words.proofs.Runs.{all_map}
@@ -18,8 +18,8 @@ use Rattle.plan.specs.Plan.{seen, plan_in}
 use Rattle.plan_test.specs.Tests.{objects_number}
 use Rattle.plan_entry.specs.Entry.{args_number, room_number, piece_number, record_number}
 use Rattle.bvh_build.specs.Tables.{low_enough}
+use Rattle.std.specs.Prelude.{Option, Some, None}
 use Rattle.emitter.specs.declared.Emitted.{Emitted}
-use Rattle.emitter.specs.declared.Emitted.TheVariants.{Nothing, Shows}
 use Rattle.reply.specs.Reply.{done_reply, refused_reply}
 use Rattle.wire_lengths.specs.Lengths.{nodes_bytes, order_bytes, short_number}
 use Rattle.wire.specs.Lent.{lent_of, ask_table}
@@ -53,10 +53,10 @@ none_first n = refl
 abbrev ArgsLowest : ArgsCall → Type 0
 ArgsLowest c = (args : List ℕ) (out : ℕ) → (c.lent args out).number ≡ lowest_in (args_apply c args out)
 
-box_number : (n : ℕ) (b : Bounds) → (box_reply n b).number ≡ lower n (unless wrong_list (bounded b))
+box_number : (n : ℕ) (b : Option Aabb) → (box_reply n b).number ≡ lower n (unless wrong_list (bounded b))
 unfolding box_reply done_reply refused_reply unless
-box_number n (Within b) = reply_number n (box_words b) refl ∙ sym (lower_none n)
-box_number n Unbounded = refl
+box_number n (Some b) = reply_number n (box_words b) refl ∙ sym (lower_none n)
+box_number n None = refl
 
 pub args_lowest : All ArgsLowest args_calls
 unfolding root_lent acos_lent prim_dist_lent prim_bounds_lent form_factor_lent fresnel_lent f0_lent diffuse_albedo_lent
@@ -73,10 +73,10 @@ args_lowest =
     & (λ args out. reply_number _ _ refl ∙ simp (lower_assoc, lower_none))
     & tt
 
-emitted_number : (e : Emitted) → (emitted_reply e).number ≡ 0
+emitted_number : (e : Option Emitted) → (emitted_reply e).number ≡ 0
 unfolding emitted_reply done_reply
-emitted_number Nothing = refl
-emitted_number (Shows t emit) = refl
+emitted_number None = refl
+emitted_number (Some e) = refl
 
 pub emitter_lowest
     : (lights args : List ℕ) (out : ℕ)

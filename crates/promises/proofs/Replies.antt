@@ -5,12 +5,13 @@ use mathlib.Core.List.{List}
 use native.Mathlib.Omega.{arith}
 use lib.Dec.{eqb-suc-zero}
 use Rattle.words.specs.Words.{sent_words}
+use Rattle.std.specs.Prelude.{Option, Some, None}
+use Rattle.trace.specs.declared.Hit.{Hit}
 use Rattle.trace.specs.declared.Traced.{Traced}
-use Rattle.trace.specs.declared.Traced.TheVariants.{Met, Missed}
 use Rattle.reply.specs.declared.Reply.{Reply}
 use Rattle.reply.specs.Reply.{one_word, done_reply, refused_reply, reply_of}
 use Rattle.wire.specs.Sent.{Sent}
-use Rattle.bemitondry_ask.specs.Marches.{traced_reply}
+use Rattle.bemitondry_ask.specs.Marches.{hit_reply, traced_reply}
 use Rattle.promises.proofs.Cases.{cond_some}
 
 -- an answer is no refusal by itself
@@ -21,8 +22,11 @@ reply_number (suc n) r e = rw (eqb-suc-zero n)
 
 pub traced_number : (t : Traced) → (traced_reply t).number ≡ 0
 unfolding traced_reply done_reply
-traced_number (Met h n) = refl
-traced_number (Missed n) = refl
+traced_number t = go t.hit
+  where
+    go : (h : Option Hit) → (hit_reply h t.count).number ≡ 0
+    go (Some h) = refl
+    go None = refl
 
 -- a reply whose number is 0 was not refused, and is the answer
 pub not_refused : (n : ℕ) (r : Reply) → (reply_of n r).number ≡ 0 → (n ≡ 0) × (reply_of n r ≡ r)

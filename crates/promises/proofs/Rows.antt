@@ -21,8 +21,8 @@ use Rattle.plan.specs.Sections.{table_words}
 use Rattle.plan.specs.Plan.{Piece, pieces_from, plan_of, seen}
 use Rattle.plan.specs.Nearest.{cut_by, carve, piece_dist, hit_of, closer, nearest, nothing, list_hit}
 use Rattle.bvh_search.specs.Field.{hit_by, field_by}
+use Rattle.std.specs.Prelude.{Some, None}
 use Rattle.trace.specs.declared.Traced.{Traced}
-use Rattle.trace.specs.declared.Traced.TheVariants.{Met, Missed}
 use Rattle.trace.specs.declared.Shadow.{Shadow}
 use Rattle.trace.specs.Trace.{eps_of, point_at, stepped_of, follow, march, trace_of}
 use Rattle.trace.specs.Shadow.{seen_of, cone_march, shadow_of}
@@ -113,10 +113,13 @@ rows =
     -- P11 plane y = 0, ray (0,3,0) down, 0 to 10: hit at 3, count 2
     ∷ record {
       gives = met (trace_of over_floor (at 0 3 0) down f0 (whole (pos 10)));
-      wanted = met (Met (record { t = whole (pos 3); p = at 0 0 0; mat = 0 }) 2);
+      wanted = met (record { hit = Some (record { t = whole (pos 3); p = at 0 0 0; mat = 0 }); count = 2 });
     }
     -- P12 same, `tmax` 2: miss, count 1
-    ∷ record { gives = met (trace_of over_floor (at 0 3 0) down f0 f2); wanted = met (Missed 1) }
+    ∷ record {
+      gives = met (trace_of over_floor (at 0 3 0) down f0 f2);
+      wanted = met (record { hit = None; count = 1 });
+    }
     -- P13 shadow with `tmin` = `tmax`: 1, count 0
     ∷ record {
       gives = shaded (shadow_of over_floor (at 0 3 0) down f1 f1 f2);

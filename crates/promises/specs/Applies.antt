@@ -1,11 +1,10 @@
 -- The numbers that may apply to each exported call, one list to a call: by the lengths of what is lent, by `tree`, by
 -- the arguments, the plan, the tree, the lights. That each call sends the lowest of its list are the theorems of
 -- proofs/Applies.antt.
-use Rattle.std.specs.Prelude.{ℕ, ◌+◌, Bool, true, false, cond, ◌&&◌, ◌||◌, List, [], ◌∷◌, ◌++◌, length, leb, ltb, eqb, Float}
+use Rattle.std.specs.Prelude.{Option, Some, None, ℕ, ◌+◌, Bool, true, false, cond, ◌&&◌, ◌||◌, List, [], ◌∷◌, ◌++◌, length, leb, ltb, eqb, Float}
 use Rattle.scalar.specs.F32.{f1}
 use Rattle.scalar.specs.Ranges.{magnitude}
-use Rattle.sdf.specs.declared.Bounds.{Bounds}
-use Rattle.sdf.specs.declared.Bounds.TheVariants.{Within, Unbounded}
+use Rattle.sdf.specs.declared.Aabb.{Aabb}
 use Rattle.sdf.specs.Boxes.{bounds_of}
 use Rattle.words.specs.Words.{word_at}
 use Rattle.refusals.specs.Refusals.{bad_number, no_room, wrong_list, too_deep, unless, lowest_of}
@@ -61,9 +60,9 @@ pub record ArgsCall : Type 0 where
   pub need : ℕ
   pub given : List ℕ → List ℕ
 
-abbrev pub bounded : Bounds → Bool
-bounded (Within b) = true
-bounded Unbounded = false
+abbrev pub bounded : Option Aabb → Bool
+bounded (Some b) = true
+bounded None = false
 
 abbrev pub args_calls : List ArgsCall
 args_calls =

@@ -11,8 +11,6 @@ use Rattle.scalar.specs.F32.{f0}
 use Rattle.words.proofs.Laws.{less_or}
 use Rattle.plan.specs.Records.{word_of, float_of}
 use Rattle.plan.specs.Plan.{seen}
-use Rattle.plan.proofs.Rows.{Alike}
-use Rattle.bvh_search.proofs.Same.{Same}
 use Rattle.reply.specs.declared.Reply.{Reply}
 use Rattle.wire.specs.Lent.{ask_table}
 use Rattle.wire_lengths.specs.Lengths.{ask_before}
@@ -20,6 +18,7 @@ use Rattle.wire.specs.Sent.{Sent}
 use Rattle.wire.proofs.Replies.{sent_as}
 use Rattle.wire_used.specs.Inside.Used.{Spared}
 use Rattle.viewer.specs.Calls.{Ask, ask_reply}
+use Rattle.viewer.specs.Inside.Same.{Reads}
 use Rattle.viewer.proofs.Spared.{spared_same, spared_args}
 
 -- ---- a new table
@@ -31,12 +30,6 @@ zero_words n i =
 
 pub zero_floats : (n i : ℕ) → i < n → float_of (replicate n f0) i ≡ f0
 zero_floats n i h = get_or-replicate n i f0 nan h
-
--- a call that replies alike where it reads the same
-abbrev pub Reads : Ask → Type 0
-Reads call =
-    (before tree : ℕ) (v w : List ℕ) (f g : List Float) → Same v w f g → Alike 16 v w f g 1393 1393
-    → call before tree v f ≡ call before tree w g
 
 pub ask_sent : (call : Ask) → Reads call → (need : ℕ) (plan nodes order : List ℕ) (tree : ℕ) (args out w : List ℕ)
     (f : List Float) (before : ℕ) (r : Reply) (n : ℕ) (out' : List ℕ)

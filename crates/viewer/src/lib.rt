@@ -1,96 +1,49 @@
 // The calls that the Rust viewer makes, on bytes: what is lent is loaded, the call made, and its reply sent. Those that
-// write tables stand whole in wire_entry and wire_tree; viewer_c exports to C what stands here.
+// write tables stand whole in wire_entry and wire_tree; viewer_c exports to C what stands here, parameter by parameter.
 
 #![tactic(auto)]
 
-ghost use Rattle.std.specs.Prelude.{◌≡◌, length};
+ghost use Rattle.std.specs.Prelude.{◌≡◌, ℕ, length};
+ghost use Rattle.reply.specs.declared.Reply.{Reply};
+ghost use Rattle.wire_lengths.specs.Lengths.{args_before};
+ghost use Rattle.wire.specs.Lent.{lent_of};
 ghost use Rattle.wire.specs.Sent.{Sent};
 ghost use Rattle.bemitondry_ask.specs.Asks.{query_reply, dist_mat_reply};
 ghost use Rattle.bemitondry_ask.specs.Marches.{trace_reply, shadow_reply};
 ghost use Rattle.bemitondry_light.specs.Light.{direct_reply, direct_diffuse_reply};
-ghost use Rattle.viewer.specs.Calls.{root_lent, acos_lent, prim_dist_lent, prim_bounds_lent, ask_reply};
-ghost use Rattle.viewer.specs.Calls.{form_factor_lent, fresnel_lent, given_material, f0_lent, diffuse_albedo_lent};
+ghost use Rattle.viewer.specs.Calls.{root_lent, acos_lent, prim_dist_lent, prim_bounds_lent, Ask, ask_reply};
+ghost use Rattle.viewer.specs.Calls.{form_factor_lent, fresnel_lent, f0_lent, diffuse_albedo_lent};
+ghost use Rattle.viewer.specs.Calls.{given_quad, given_material};
 ghost use Rattle.viewer.specs.Calls.{emitter_lent};
+ghost use Rattle.viewer.specs.Inside.Same.{Reads, query_same, dist_mat_same, trace_same, shadow_same, direct_same};
+ghost use Rattle.viewer.specs.Inside.Same.{diffuse_same};
 ghost use Rattle.wire_entry.specs.Entries.{MaterialSent, LightSent, PlaneSent, ObjectSent};
 ghost use Rattle.wire_tree.specs.Trees.{BuildSent, OfferSent};
 
-use plan::Material;
+use plan::{Floats, Material, Words};
 use quad::Quad;
+use reply::Reply;
 
-pub fn viewer_root(args: &[u8], out: &mut [u8]) -> u32
-    ensures { Sent (root_lent args.now (length out.old)) out.old result
-        out.new }
+// A call on values, of which the first `need` bytes are read.
+fn answer<F: FnOnce(u32, &[u8]) -> Reply>(need: usize, args: &[u8], out: &mut [u8], reply: F) -> u32
+    requires { F.IsAlwaysCallable reply }
+    ensures { (a : _) × (r : Reply) × F.post reply (args_before need (length args.now) (length out.old)) a r
+        × (a.now ≡ lent_of args.now need) × Sent r out.old result out.new }
 {
-    let n = wire_lengths::args_before(4, args.len(), out.len());
-    let a = wire::lent(args, 4);
-    wire::send(bemitondry_values::root(n, wire::float_at(a, 0)), out)
+    let n = wire_lengths::args_before(need, args.len(), out.len());
+    wire::send(reply(n, wire::lent(args, need)), out)
 }
 
-pub fn viewer_acos(args: &[u8], out: &mut [u8]) -> u32
-    ensures { Sent (acos_lent args.now (length out.old)) out.old result
-        out.new }
+// A quad in the arguments.
+fn quad_in(a: &[u8]) -> Quad
+    ensures { result ≡ given_quad a.now }
 {
-    let n = wire_lengths::args_before(4, args.len(), out.len());
-    let a = wire::lent(args, 4);
-    wire::send(bemitondry_values::acos(n, wire::float_at(a, 0)), out)
-}
-
-pub fn viewer_prim_dist(args: &[u8], out: &mut [u8]) -> u32
-    ensures { Sent (prim_dist_lent args.now (length out.old)) out.old result out.new }
-{
-    let n = wire_lengths::args_before(48, args.len(), out.len());
-    let a = wire::lent(args, 48);
-    let r = bemitondry_values::prim_dist(
-        n,
-        words::word(a, 0),
-        wire::vec_at(a, 1),
-        wire::vec_at(a, 4),
-        wire::float_at(a, 7),
-        wire::float_at(a, 8),
-        wire::vec_at(a, 9),
-    );
-    wire::send(r, out)
-}
-
-pub fn viewer_prim_bounds(args: &[u8], out: &mut [u8]) -> u32
-    ensures { Sent (prim_bounds_lent args.now (length out.old)) out.old result
-        out.new }
-{
-    let n = wire_lengths::args_before(36, args.len(), out.len());
-    let a = wire::lent(args, 36);
-    let r = bemitondry_values::prim_bounds(
-        n,
-        words::word(a, 0),
-        wire::vec_at(a, 1),
-        wire::vec_at(a, 4),
-        wire::float_at(a, 7),
-        wire::float_at(a, 8),
-    );
-    wire::send(r, out)
-}
-
-pub fn viewer_form_factor(args: &[u8], out: &mut [u8]) -> u32
-    ensures { Sent (form_factor_lent args.now (length out.old)) out.old result
-        out.new }
-{
-    let n = wire_lengths::args_before(48, args.len(), out.len());
-    let a = wire::lent(args, 48);
-    let q = Quad {
+    Quad {
         v0: wire::vec_at(a, 0),
         v1: wire::vec_at(a, 3),
         v2: wire::vec_at(a, 6),
         v3: wire::vec_at(a, 9),
-    };
-    wire::send(bemitondry_values::form_factor(n, q), out)
-}
-
-pub fn viewer_fresnel(args: &[u8], out: &mut [u8]) -> u32
-    ensures { Sent (fresnel_lent args.now (length out.old)) out.old result out.new }
-{
-    let n = wire_lengths::args_before(16, args.len(), out.len());
-    let a = wire::lent(args, 16);
-    let r = bemitondry_values::fresnel(n, wire::float_at(a, 0), wire::vec_at(a, 1));
-    wire::send(r, out)
+    }
 }
 
 // A material in the arguments.
@@ -104,37 +57,255 @@ fn material_in(a: &[u8]) -> Material
     }
 }
 
+pub fn viewer_root(args: &[u8], out: &mut [u8]) -> u32
+    ensures { Sent (root_lent args.now (length out.old)) out.old result
+        out.new }
+{
+    answer(
+        4,
+        args,
+        out,
+        |n, a| bemitondry_values::root(n, wire::float_at(a, 0)),
+    )
+}
+
+pub fn viewer_acos(args: &[u8], out: &mut [u8]) -> u32
+    ensures { Sent (acos_lent args.now (length out.old)) out.old result
+        out.new }
+{
+    answer(
+        4,
+        args,
+        out,
+        |n, a| bemitondry_values::acos(n, wire::float_at(a, 0)),
+    )
+}
+
+pub fn viewer_prim_dist(args: &[u8], out: &mut [u8]) -> u32
+    ensures { Sent (prim_dist_lent args.now (length out.old)) out.old result out.new }
+{
+    answer(48, args, out, |n, a| {
+        bemitondry_values::prim_dist(
+            n,
+            words::word(a, 0),
+            wire::vec_at(a, 1),
+            wire::vec_at(a, 4),
+            wire::float_at(a, 7),
+            wire::float_at(a, 8),
+            wire::vec_at(a, 9),
+        )
+    })
+}
+
+pub fn viewer_prim_bounds(args: &[u8], out: &mut [u8]) -> u32
+    ensures { Sent (prim_bounds_lent args.now (length out.old)) out.old result
+        out.new }
+{
+    answer(36, args, out, |n, a| {
+        bemitondry_values::prim_bounds(
+            n,
+            words::word(a, 0),
+            wire::vec_at(a, 1),
+            wire::vec_at(a, 4),
+            wire::float_at(a, 7),
+            wire::float_at(a, 8),
+        )
+    })
+}
+
+pub fn viewer_form_factor(args: &[u8], out: &mut [u8]) -> u32
+    ensures { Sent (form_factor_lent args.now (length out.old)) out.old result
+        out.new }
+{
+    answer(
+        48,
+        args,
+        out,
+        |n, a| bemitondry_values::form_factor(n, quad_in(a)),
+    )
+}
+
+pub fn viewer_fresnel(args: &[u8], out: &mut [u8]) -> u32
+    ensures { Sent (fresnel_lent args.now (length out.old)) out.old result out.new }
+{
+    answer(16, args, out, |n, a| {
+        bemitondry_values::fresnel(n, wire::float_at(a, 0), wire::vec_at(a, 1))
+    })
+}
+
 pub fn viewer_f0(args: &[u8], out: &mut [u8]) -> u32
     ensures { Sent (f0_lent args.now (length out.old)) out.old result out.new }
 {
-    let n = wire_lengths::args_before(20, args.len(), out.len());
-    let a = wire::lent(args, 20);
-    wire::send(bemitondry_values::f0(n, material_in(a)), out)
+    answer(
+        20,
+        args,
+        out,
+        |n, a| bemitondry_values::f0(n, material_in(a)),
+    )
 }
 
 pub fn viewer_diffuse_albedo(args: &[u8], out: &mut [u8]) -> u32
     ensures { Sent (diffuse_albedo_lent args.now (length out.old)) out.old result
         out.new }
 {
-    let n = wire_lengths::args_before(20, args.len(), out.len());
-    let a = wire::lent(args, 20);
-    wire::send(bemitondry_values::diffuse_albedo(n, material_in(a)), out)
+    answer(
+        20,
+        args,
+        out,
+        |n, a| bemitondry_values::diffuse_albedo(n, material_in(a)),
+    )
 }
 
 pub fn viewer_emitter_hit(lights: &[u8], args: &[u8], out: &mut [u8]) -> u32
     ensures { Sent (emitter_lent lights.now args.now (length out.old)) out.old result
         out.new }
 {
-    let n = wire_lengths::args_before(28, args.len(), out.len());
-    let a = wire::lent(args, 28);
-    let r = bemitondry_emitter::emitter_hit(
-        n,
-        lights,
-        wire::vec_at(a, 0),
-        wire::vec_at(a, 3),
-        wire::float_at(a, 6),
+    answer(28, args, out, |n, a| {
+        bemitondry_emitter::emitter_hit(
+            n,
+            lights,
+            wire::vec_at(a, 0),
+            wire::vec_at(a, 3),
+            wire::float_at(a, 6),
+        )
+    })
+}
+
+// A call that asks on a loaded table: how many bytes of arguments it reads, what it replies, and that it replies alike
+// where it reads the same, so that a table may be loaded no further than it is used.
+trait Question {
+    ghost NEED: { ℕ };
+
+    ghost reply: { Ask };
+
+    const NEED: usize;
+
+    fn ask(before: u32, tree: u32, ws: &Words, fs: &Floats) -> Reply
+        ensures { result ≡ reply before tree ws.now fs.now };
+
+    ghost reads: { Reads reply };
+}
+
+struct Query;
+
+impl Question for Query {
+    ghost NEED = { 20 };
+
+    ghost reply = { query_reply };
+
+    const NEED: usize = 20;
+
+    fn ask(before: u32, tree: u32, ws: &Words, fs: &Floats) -> Reply {
+        bemitondry_ask::query(before, tree, ws, fs)
+    }
+
+    ghost reads = { query_same };
+}
+
+struct DistMat;
+
+impl Question for DistMat {
+    ghost NEED = { 12 };
+
+    ghost reply = { dist_mat_reply };
+
+    const NEED: usize = 12;
+
+    fn ask(before: u32, tree: u32, ws: &Words, fs: &Floats) -> Reply {
+        bemitondry_ask::dist_mat(before, tree, ws, fs)
+    }
+
+    ghost reads = { dist_mat_same };
+}
+
+struct Trace;
+
+impl Question for Trace {
+    ghost NEED = { 32 };
+
+    ghost reply = { trace_reply };
+
+    const NEED: usize = 32;
+
+    fn ask(before: u32, tree: u32, ws: &Words, fs: &Floats) -> Reply {
+        bemitondry_ask::trace(before, tree, ws, fs)
+    }
+
+    ghost reads = { trace_same };
+}
+
+struct SoftShadow;
+
+impl Question for SoftShadow {
+    ghost NEED = { 36 };
+
+    ghost reply = { shadow_reply };
+
+    const NEED: usize = 36;
+
+    fn ask(before: u32, tree: u32, ws: &Words, fs: &Floats) -> Reply {
+        bemitondry_ask::soft_shadow(before, tree, ws, fs)
+    }
+
+    ghost reads = { shadow_same };
+}
+
+struct Direct;
+
+impl Question for Direct {
+    ghost NEED = { 56 };
+
+    ghost reply = { direct_reply };
+
+    const NEED: usize = 56;
+
+    fn ask(before: u32, tree: u32, ws: &Words, fs: &Floats) -> Reply {
+        bemitondry_light::direct(before, tree, ws, fs)
+    }
+
+    ghost reads = { direct_same };
+}
+
+struct DirectDiffuse;
+
+impl Question for DirectDiffuse {
+    ghost NEED = { 36 };
+
+    ghost reply = { direct_diffuse_reply };
+
+    const NEED: usize = 36;
+
+    fn ask(before: u32, tree: u32, ws: &Words, fs: &Floats) -> Reply {
+        bemitondry_light::direct_diffuse(before, tree, ws, fs)
+    }
+
+    ghost reads = { diffuse_same };
+}
+
+fn ask<Q: Question>(
+    plan: &[u8],
+    nodes: &[u8],
+    order: &[u8],
+    tree: u32,
+    args: &[u8],
+    out: &mut [u8],
+) -> u32
+    ensures { Sent (ask_reply Q.reply Q.NEED plan.now nodes.now order.now tree args.now (length out.old)) out.old result
+        out.new }
+{
+    let mut ws = [0u32; plan::TABLE];
+    let mut fs = [0.0f32; plan::TABLE];
+    wire_used::load_ask(Q::NEED, plan, nodes, order, tree, args, &mut ws, &mut fs);
+    let n = wire_lengths::ask_before(
+        Q::NEED,
+        plan.len(),
+        nodes.len(),
+        order.len(),
+        tree,
+        args.len(),
+        out.len(),
     );
-    wire::send(r, out)
+    wire::send(Q::ask(n, tree, &ws, &fs), out)
 }
 
 pub fn viewer_query(
@@ -150,19 +321,7 @@ pub fn viewer_query(
         (length out.old))
         out.old result out.new }
 {
-    let mut ws = [0u32; plan::TABLE];
-    let mut fs = [0.0f32; plan::TABLE];
-    wire_used::load_ask(20, plan, nodes, order, tree, args, &mut ws, &mut fs);
-    let n = wire_lengths::ask_before(
-        20,
-        plan.len(),
-        nodes.len(),
-        order.len(),
-        tree,
-        args.len(),
-        out.len(),
-    );
-    wire::send(bemitondry_ask::query(n, tree, &ws, &fs), out)
+    ask::<Query>(plan, nodes, order, tree, args, out)
 }
 
 pub fn viewer_dist_mat(
@@ -178,19 +337,7 @@ pub fn viewer_dist_mat(
         (length out.old))
         out.old result out.new }
 {
-    let mut ws = [0u32; plan::TABLE];
-    let mut fs = [0.0f32; plan::TABLE];
-    wire_used::load_ask(12, plan, nodes, order, tree, args, &mut ws, &mut fs);
-    let n = wire_lengths::ask_before(
-        12,
-        plan.len(),
-        nodes.len(),
-        order.len(),
-        tree,
-        args.len(),
-        out.len(),
-    );
-    wire::send(bemitondry_ask::dist_mat(n, tree, &ws, &fs), out)
+    ask::<DistMat>(plan, nodes, order, tree, args, out)
 }
 
 pub fn viewer_trace(
@@ -206,19 +353,7 @@ pub fn viewer_trace(
         (length out.old))
         out.old result out.new }
 {
-    let mut ws = [0u32; plan::TABLE];
-    let mut fs = [0.0f32; plan::TABLE];
-    wire_used::load_ask(32, plan, nodes, order, tree, args, &mut ws, &mut fs);
-    let n = wire_lengths::ask_before(
-        32,
-        plan.len(),
-        nodes.len(),
-        order.len(),
-        tree,
-        args.len(),
-        out.len(),
-    );
-    wire::send(bemitondry_ask::trace(n, tree, &ws, &fs), out)
+    ask::<Trace>(plan, nodes, order, tree, args, out)
 }
 
 pub fn viewer_soft_shadow(
@@ -234,19 +369,7 @@ pub fn viewer_soft_shadow(
         (length out.old))
         out.old result out.new }
 {
-    let mut ws = [0u32; plan::TABLE];
-    let mut fs = [0.0f32; plan::TABLE];
-    wire_used::load_ask(36, plan, nodes, order, tree, args, &mut ws, &mut fs);
-    let n = wire_lengths::ask_before(
-        36,
-        plan.len(),
-        nodes.len(),
-        order.len(),
-        tree,
-        args.len(),
-        out.len(),
-    );
-    wire::send(bemitondry_ask::soft_shadow(n, tree, &ws, &fs), out)
+    ask::<SoftShadow>(plan, nodes, order, tree, args, out)
 }
 
 pub fn viewer_direct(
@@ -262,19 +385,7 @@ pub fn viewer_direct(
         (length out.old))
         out.old result out.new }
 {
-    let mut ws = [0u32; plan::TABLE];
-    let mut fs = [0.0f32; plan::TABLE];
-    wire_used::load_ask(56, plan, nodes, order, tree, args, &mut ws, &mut fs);
-    let n = wire_lengths::ask_before(
-        56,
-        plan.len(),
-        nodes.len(),
-        order.len(),
-        tree,
-        args.len(),
-        out.len(),
-    );
-    wire::send(bemitondry_light::direct(n, tree, &ws, &fs), out)
+    ask::<Direct>(plan, nodes, order, tree, args, out)
 }
 
 pub fn viewer_direct_diffuse(
@@ -290,19 +401,7 @@ pub fn viewer_direct_diffuse(
         args.now (length out.old))
         out.old result out.new }
 {
-    let mut ws = [0u32; plan::TABLE];
-    let mut fs = [0.0f32; plan::TABLE];
-    wire_used::load_ask(36, plan, nodes, order, tree, args, &mut ws, &mut fs);
-    let n = wire_lengths::ask_before(
-        36,
-        plan.len(),
-        nodes.len(),
-        order.len(),
-        tree,
-        args.len(),
-        out.len(),
-    );
-    wire::send(bemitondry_light::direct_diffuse(n, tree, &ws, &fs), out)
+    ask::<DirectDiffuse>(plan, nodes, order, tree, args, out)
 }
 
 pub fn viewer_add_material(plan: &mut [u8], args: &[u8], out: &mut [u8]) -> u32

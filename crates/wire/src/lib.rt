@@ -1,17 +1,17 @@
 // The boundary's tables: how what is lent is loaded into one table of words and floats, and how it is stored and a
-// reply sent.
+// reply sent. Tables are lent one by one, and `tree` is a number, as C lends and sends them.
 
 #![tactic(auto)]
 
-ghost use Rattle.std.specs.Prelude.{◌≡◌, []};
+ghost use Rattle.std.specs.Prelude.{◌≡◌, true, []};
 ghost use Rattle.plan.specs.Plan.{seen};
 ghost use Rattle.wire.specs.Lent.{lent_of, used_of, given_float, given_vec, table_of};
 ghost use Rattle.wire.specs.Inside.Parts.{loaded_part};
 ghost use Rattle.wire.specs.Lent.{plan_table, ask_table};
-ghost use Rattle.wire.specs.Sent.{cleared_front, cleared, Sent};
-ghost use Rattle.wire.specs.Inside.Parts.{stored_front, stored_plan, stored_table};
+ghost use Rattle.wire.specs.Sent.{cleared, Sent};
+ghost use Rattle.wire.specs.Inside.Parts.{stored_front, stored_plan};
 
-use plan::{Floats, Nodes, Order, Words};
+use plan::{Floats, Words};
 use reply::Reply;
 use vectors::Vec3;
 
@@ -19,10 +19,7 @@ use vectors::Vec3;
 pub fn lent(t: &[u8], full: usize) -> &[u8]
     ensures { result.now ≡ lent_of t.now full }
 {
-    if full <= t.len() {
-        return t;
-    }
-    &t[..0]
+    if full <= t.len() { t } else { none(t) }
 }
 
 // Nothing of a table: what a call does not look at.
@@ -36,10 +33,7 @@ pub fn none(t: &[u8]) -> &[u8]
 pub fn used(tree: u32, t: &[u8], full: usize) -> &[u8]
     ensures { result.now ≡ used_of tree t.now full }
 {
-    if tree == 1 {
-        return lent(t, full);
-    }
-    none(t)
+    if tree == 1 { lent(t, full) } else { none(t) }
 }
 
 pub fn float_at(t: &[u8], i: usize) -> f32
@@ -64,10 +58,8 @@ pub fn vec_at(t: &[u8], i: u32) -> Vec3
 pub fn load_part(t: &[u8], ws: &mut [u32], from: usize, to: usize)
     ensures { ws.new ≡ loaded_part t.now ws.old from to }
 {
-    if to <= ws.len() {
-        if from <= to {
-            words::load(t, &mut ws[from..to]);
-        }
+    if to <= ws.len() && from <= to {
+        words::load(t, &mut ws[from..to]);
     }
 }
 
@@ -134,48 +126,18 @@ fn store_front(ws: &[u32], n: usize, b: &mut [u8])
 }
 
 // The plan's words of a call's table.
-pub fn store_plan(stores: bool, ws: &Words, b: &mut [u8])
-    ensures { b.new ≡ stored_plan stores ws.now b.old }
+pub fn store_plan(ws: &Words, b: &mut [u8])
+    ensures { b.new ≡ stored_plan true ws.now b.old }
 {
-    if stores {
-        store_front(ws, plan::ARGS, b);
-    }
-}
-
-pub fn store_nodes(stores: bool, nw: &Nodes, b: &mut [u8])
-    ensures { b.new ≡ stored_table stores nw.now b.old }
-{
-    if stores {
-        words::store(nw, b);
-    }
-}
-
-pub fn store_order(stores: bool, ow: &Order, b: &mut [u8])
-    ensures { b.new ≡ stored_table stores ow.now b.old }
-{
-    if stores {
-        words::store(ow, b);
-    }
+    store_front(ws, plan::ARGS, b);
 }
 
 // The first n bytes become 0, where there are so many.
-fn clear_front(b: &mut [u8], n: usize)
-    ensures { b.new ≡ cleared_front b.old n }
+pub fn clear(b: &mut [u8], n: usize)
+    ensures { b.new ≡ cleared true b.old n }
 {
     if n <= b.len() {
-        let mut i: usize = 0;
-        while i < n {
-            b[i] = 0;
-            i += 1;
-        }
-    }
-}
-
-pub fn clear(clears: bool, b: &mut [u8], n: usize)
-    ensures { b.new ≡ cleared clears b.old n }
-{
-    if clears {
-        clear_front(b, n);
+        b[..n].fill(0);
     }
 }
 

@@ -1,4 +1,5 @@
-// What applies by the lengths of the tables that are lent, before a word of them is judged.
+// What applies by the lengths of the tables that are lent, before a word of them is judged. `tree` is a number, as C
+// sends it.
 
 #![tactic(auto)]
 
@@ -65,9 +66,10 @@ fn tree_before(tree: u32, nodes: usize, order: usize) -> u32
     ensures { result ≡ tree_before tree nodes order }
 {
     if tree == 1 {
-        return tables_before(nodes, order);
+        tables_before(nodes, order)
+    } else {
+        refusals::unless(refusals::BAD_NUMBER, tree == 0)
     }
-    refusals::unless(refusals::BAD_NUMBER, tree == 0)
 }
 
 pub fn ask_before(

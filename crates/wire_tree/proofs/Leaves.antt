@@ -17,6 +17,15 @@ use Rattle.bemitondry_tree.specs.Trees.{build_number, offer_number, judged_tree,
 use Rattle.bemitondry_tree.specs.Inside.Leaves.{BuildLeaves, OfferLeaves}
 use Rattle.wire_tree.specs.Trees.{build_stores, BuildOn, OfferOn}
 
+-- ---- tables that are stored where a test holds
+pub stored_then : (b : Bool) (w x x' : List ℕ) → b ≡ true → x' ≡ with_words x w → x' ≡ stored_table b w x
+unfolding stored_table
+stored_then b w x x' e h = rw e h
+
+pub stored_else : (b : Bool) (w x x' : List ℕ) → b ≡ false → x' ≡ x → x' ≡ stored_table b w x
+unfolding stored_table
+stored_else b w x x' e h = rw e h
+
 -- ---- a build
 pub build_sent : (before b : ℕ) (w t : List ℕ) (f : List Float) (r : Reply) (nw ow nodes order out : List ℕ) (stores : Bool) (n : ℕ) (nodes' order' out' : List ℕ)
     → (w ≡ t) × (f ≡ seen w) → before ≡ b

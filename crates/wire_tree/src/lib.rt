@@ -9,10 +9,7 @@ ghost use Rattle.wire_tree.specs.Trees.{build_stores, BuildSent, OfferSent};
 fn build_stores(number: u32) -> bool
     ensures { result ≡ build_stores number }
 {
-    if number == 0 {
-        return true;
-    }
-    number == refusals::TOO_DEEP
+    number == 0 || number == refusals::TOO_DEEP
 }
 
 pub fn build(plan: &[u8], nodes: &mut [u8], order: &mut [u8], out: &mut [u8]) -> u32
@@ -26,9 +23,10 @@ pub fn build(plan: &[u8], nodes: &mut [u8], order: &mut [u8], out: &mut [u8]) ->
     let mut nw = [0u32; plan::NODES_WORDS];
     let mut ow = [0u32; plan::ORDER_WORDS];
     let r = bemitondry_tree::build(n, &ws, &fs, &mut nw, &mut ow);
-    let stores = build_stores(r.number);
-    wire::store_nodes(stores, &nw, nodes);
-    wire::store_order(stores, &ow, order);
+    if build_stores(r.number) {
+        words::store(&nw, nodes);
+        words::store(&ow, order);
+    }
     wire::send(r, out)
 }
 
@@ -54,7 +52,9 @@ pub fn offer(
     let mut nw = [0u32; plan::NODES_WORDS];
     let mut ow = [0u32; plan::ORDER_WORDS];
     let r = bemitondry_tree::offer(n, &ws, &fs, &mut nw, &mut ow);
-    wire::store_nodes(r.number == 0, &nw, nodes);
-    wire::store_order(r.number == 0, &ow, order);
+    if r.number == 0 {
+        words::store(&nw, nodes);
+        words::store(&ow, order);
+    }
     wire::send(r, out)
 }

@@ -21,7 +21,11 @@ use Rattle.wire.proofs.Loads.{table_loaded}
 use Rattle.wire_used.specs.Inside.Used.{Seen, Shown, Put, Filled, EndsBy, Begins, InOrder, Early, Listed}
 use Rattle.wire_used.specs.Inside.Used.{WithCutters, Begun, Used, Spared}
 use Rattle.wire_used.proofs.Parts.{List-ext, part_long, part_before, part_in, part_after, word_drop}
-use Rattle.wire_used.proofs.Laws.{ends_more}
+
+-- cutters that end at a place end at any later one
+ends_more : (w : List ℕ) (u e r : ℕ) → u ≤ e → EndsBy w u r → EndsBy w e r
+ends_more w u e r h (inl z) = inl z
+ends_more w u e r h (inr l) = inr (omega (arith, h, l))
 
 -- in a range, or outside it
 side : (from to i : ℕ) → ((from ≤ i) × (i < to)) ⊎ ((i < from) ⊎ (to ≤ i))
@@ -88,30 +92,6 @@ more t w x f g from to filled p agree cover =
       shown = p.shown filled.shown;
     }
 
--- ---- the cutters
-module _ {source : ℕ → ℕ} (w x : List ℕ) (f g : List Float) (u v : ℕ) (low : u ≤ 1024) (most : v ≤ 1024) where
-  pub cuts_two
-      : (y : List ℕ) (k : List Float) → u < v → Put source w y f k (16 * 369) (16 * (369 + u))
-      → Put source y x k g (16 * (369 + v)) (16 * (369 + v + (1024 - v))) → WithCutters source w x f g u v
-  cuts_two y k h p q =
-      record {
-        front = λ i a b. q.outside i (inl (omega (arith, b, h))) ∙ p.inside i (omega (arith, a)) (omega (arith, b));
-        back = λ i a b. q.inside i (omega (arith, a)) (omega (arith, b, most));
-        outside = λ i a.
-            q.outside i (⊎_elim (λ b. inl (omega (arith, b))) (λ b. inr (omega (arith, b, most))) a)
-            ∙ p.outside i (⊎_elim (λ b. inl (omega (arith, b))) (λ b. inr (omega (arith, b, h, most))) a);
-        shown = λ s. q.shown (p.shown s);
-      }
-
-  pub cuts_all : Put source w x f g (16 * 369) (16 * (369 + 1024)) → WithCutters source w x f g u v
-  cuts_all p =
-      record {
-        front = λ i a b. p.inside i (omega (arith, a)) (omega (arith, b, low));
-        back = λ i a b. p.inside i (omega (arith, a)) (omega (arith, b));
-        outside = λ i a. p.outside i (⊎_elim (λ b. inl (omega (arith, b))) (λ b. inr (omega (arith, b))) a);
-        shown = p.shown;
-      }
-
 -- ---- the lists, after counts, arguments and order
 in_order_as : (t w : List ℕ) (f : List Float) (m : ℕ) → Filled t w f Early → InOrder w m → InOrder t m
 in_order_as t w f m filled o =
@@ -123,34 +103,6 @@ in_order_as t w f m filled o =
       objects = o.objects;
       order = λ i h. rw (← (filled.same (27031 + i) (inr (omega arith)))) (o.order i h);
     }
-
-module _ (plan t w w1 w2 w3 x : List ℕ) (f f1 f2 f3 g : List Float) (m n0 n1 n2 : ℕ)
-    (plan_is : (i : ℕ) → i < 22288 → word_at plan i ≡ word_of t i) (early : Filled t w f Early) (o : InOrder w m)
-    (a0 : n0 ≡ word_of w 0) (a1 : n1 ≡ word_of w 1) (a2 : n2 ≡ word_of w 2)
-    (p1 : Put (word_at plan) w w1 f f1 (16 * 1) (16 * (1 + n0)))
-    (p2 : Put (word_at plan) w1 w2 f1 f2 (16 * 65) (16 * (65 + n1)))
-    (p3 : Put (word_at plan) w2 w3 f2 f3 (16 * 81) (16 * (81 + 2 * n2)))
-    (p4 : Put (word_at plan) w3 x f3 g (16 * 113) (16 * (113 + m))) where
-  pub lists_law : Filled t x g (Listed t m)
-  lists_law =
-      let k = in_order_as t w f m early o in
-      let mo = k.materials in
-      let po = k.planes in
-      let lo = k.lights in
-      let oo = k.objects in
-      let b0 : n0 ≡ word_of t 0 = a0 ∙ early.same 0 (inl (inl (omega arith))) in
-      let b1 : n1 ≡ word_of t 1 = a1 ∙ early.same 1 (inl (inl (omega arith))) in
-      let b2 : n2 ≡ word_of t 2 = a2 ∙ early.same 2 (inl (inl (omega arith))) in
-      more t w3 x f3 g (16 * 113) (16 * (113 + m))
-      (more t w2 w3 f2 f3 (16 * 81) (16 * (81 + 2 * n2))
-      (more t w1 w2 f1 f2 (16 * 65) (16 * (65 + n1))
-      (more t w w1 f f1 (16 * 1) (16 * (1 + n0)) early p1 (λ i _ h. plan_is i (omega (arith, h, mo, b0)))
-      (λ i q. ⊎_elim (λ c. inl c) (λ c. inr (c.0, omega (arith, b0, c.1))) q)) p2
-      (λ i _ h. plan_is i (omega (arith, h, po, b1)))
-      (λ i q. ⊎_elim (λ c. inl c) (λ c. inr (c.0, omega (arith, b1, c.1))) q)) p3
-      (λ i _ h. plan_is i (omega (arith, h, lo, b2)))
-      (λ i q. ⊎_elim (λ c. inl c) (λ c. inr (c.0, omega (arith, b2, c.1))) q)) p4
-      (λ i _ h. plan_is i (omega (arith, h, oo))) (λ i q. q)
 
 pub early_kept : (t w : List ℕ) (f : List Float) (m : ℕ) → Filled t w f (Listed t m) → Filled t w f Early
 early_kept t w f m filled = record { same = λ i q. filled.same i (inl (inl (inl (inl q)))); shown = filled.shown }
@@ -359,34 +311,6 @@ module _ (plan args nodes order z w1 w2 w : List ℕ) (k f1 f2 f : List Float) (
         plan_is = plan_word plan args nodes order z l;
         nodes_are = nodes_word plan args nodes order z l;
       }
-
--- ---- all the rest, after counts, arguments and order
-pub all_law
-    : (plan nodes t w y x : List ℕ) (f k g : List Float) → Begun plan nodes t w f
-    → Put (word_at plan) w y f k (16 * 0) (16 * (0 + 1393)) → Put (λ i. word_at nodes (i - 22432)) y x k g 22432 27031
-    → Spared t x × Shown x g
-all_law plan nodes t w y x f k g b p q =
-    let filled : Filled t x g (λ i. 0 ≤ i)
-    = more t y x k g 22432 27031
-    (more {Q = λ i. (i < 22432) ⊎ (27031 ≤ i)} t w y f k (16 * 0) (16 * (0 + 1393)) b.filled p
-    (λ i _ h. b.plan_is i (omega (arith, h)))
-    (λ i r.
-    ⊎_elim
-    (λ a. elim (dec_le 22288 i) [ yes c ↦ inl (inl (inr (c, a))) | no c ↦ inr (omega arith, omega (arith, c)) ])
-    (λ a. inl (inr a)) r)) q b.nodes_are
-    (λ i _.
-    elim (dec_le 22432 i) [
-      | yes c ↦ elim (dec_le 27031 i) [ yes d ↦ inl (inr d) | no d ↦ inr (c, omega (arith, d)) ]
-      | no c ↦ inl (inl (omega (arith, c)))
-    ]) in (
-      record {
-        long = filled.shown.long;
-        whole = b.whole;
-        early = λ i _. filled.same i (omega arith);
-        rest = inl (λ i. filled.same i (omega arith));
-      },
-      filled.shown,
-    )
 
 pub all_seen : (w : List ℕ) (f : List Float) → Shown w f → f ≡ seen w
 all_seen w f s =

@@ -8,7 +8,7 @@ use mathlib.Core.List.{List, [], ◌∷◌, ◌++◌}
 use native.Mathlib.Omega.{arith}
 use borrow.Author.Tests.{le-leb, lt-ltb, le-ltb}
 use lib.ListN.{length, take, drop, get_or, get_or-append, length-drop, length-append}
-use lib.Seq.{get_or-append-add, get_or-take, get_or-drop, length-take-le, take-length}
+use lib.Seq.{get_or-append-add, get_or-take, get_or-drop, length-take-le}
 use lib.Dec.{ltb}
 use Rattle.words.specs.Words.{word_at, words_of, le4}
 use Rattle.words.proofs.Laws.{less_or}
@@ -126,8 +126,3 @@ word_drop b n i =
       length-drop (4 * n) b,
     )
     (ap (λ (c : Bool). cond c (le4 b (4 * (n + i))) 0) (fits_drop (length b) n i))
-
--- what a table has from a place on
-pub rest_is : (t : List ℕ) (from : ℕ) → take (length t - from) (drop from t) ≡ drop from t
-rest_is t from =
-    ap (λ (n : ℕ). take n (drop from t)) (sym (length-drop from t)) ∙ take-length (drop from t)

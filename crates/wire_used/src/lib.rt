@@ -7,8 +7,8 @@
 ghost use Rattle.std.specs.Prelude.{◌≡◌, true, List, ℕ, ◌+◌, ◌*◌, ◌-◌, ◌<◌, ◌≤◌, drop};
 ghost use Rattle.scalar.specs.F32.{f0};
 ghost use Rattle.words.specs.Words.{word_at};
-ghost use Rattle.plan.specs.Sections.{planes, objects, cutter_places, plan_words, nodes_first, order_first, order_places};
-ghost use Rattle.plan.specs.Sections.{table_rows, table_words};
+ghost use Rattle.plan.specs.Sections.{planes, objects, cutter_places, plan_words, nodes_first, order_first};
+ghost use Rattle.plan.specs.Sections.{order_places, table_rows, table_words};
 ghost use Rattle.plan.specs.Records.{word_of, float_of};
 ghost use Rattle.plan.specs.Plan.{seen};
 ghost use Rattle.wire.specs.Lent.{table_of, ask_table};
@@ -18,47 +18,23 @@ ghost use Rattle.wire_used.specs.Inside.Used.{Shown, WithCutters, Begun, Spared}
 use plan::{Floats, Words};
 
 // The cutters' first row and their places.
-const CUTTERS: usize = 369;
+const CUTTERS: usize = plan::CUTTER_ROW as usize;
 
-const PLACES: usize = 1024;
-
-// The rows of the plan.
-const PLAN_ROWS: usize = 1393;
+const PLACES: usize = plan::CUTTERS as usize;
 
 // The words of two nodes: a tree has less than two for an object.
 const TWO_NODES: usize = 18;
-
-// As a call's result a word is known to fit, so it may be cast.
-fn word_in(ws: &Words, i: usize) -> u32
-    ensures { result ≡ word_of ws.now i }
-{
-    if i < plan::TABLE {
-        return ws[i];
-    }
-    let _words: &[u32] = ws;
-    0
-}
-
-fn greater(a: u32, b: u32) -> u32
-    ensures { (a ≤ result) × (b ≤ result) }
-{
-    if a < b { b } else { a }
-}
 
 // Where the cutters of the piece in row r end, where it has any, and at least u.
 fn past(ws: &Words, r: usize, u: usize) -> usize
     ensures { (u ≤ result) × EndsBy ws.now result r }
 {
     if r < plan::ROWS {
-        let n = word_in(ws, 16 * r + 2);
+        let n = plan::word_in(ws, 16 * r + 2);
         if n == 0 {
             return u;
         }
-        let e = word_in(ws, 16 * r + 12) as usize + n as usize;
-        if u < e {
-            return e;
-        }
-        return u;
+        return u.max(plan::word_in(ws, 16 * r + 12) as usize + n as usize);
     }
     let _words: &[u32] = ws;
     u
@@ -68,11 +44,9 @@ fn past(ws: &Words, r: usize, u: usize) -> usize
 fn ends(ws: &Words, first: u32, n: u32) -> usize
     ensures { (j : ℕ) → j < n → EndsBy ws.now result (first + j) }
 {
-    let mut e: usize = 0;
-    let mut j: u32 = 0;
-    while j < n {
+    let mut e = 0;
+    for j in 0..n {
         e = past(ws, first as usize + j as usize, e);
-        j += 1;
     }
     e
 }
@@ -82,14 +56,10 @@ fn before(ws: &Words, r: usize, v: usize) -> usize
     ensures { (result ≤ v) × Begins ws.now result r }
 {
     if r < plan::ROWS {
-        if word_in(ws, 16 * r + 2) == 0 {
+        if plan::word_in(ws, 16 * r + 2) == 0 {
             return v;
         }
-        let e = word_in(ws, 16 * r + 12) as usize;
-        if e < v {
-            return e;
-        }
-        return v;
+        return v.min(plan::word_in(ws, 16 * r + 12) as usize);
     }
     let _words: &[u32] = ws;
     v
@@ -101,10 +71,8 @@ fn begins(ws: &Words, n: u32) -> usize
         × ((j : ℕ) → j < n → Begins ws.now result (planes.first + j)) }
 {
     let mut e = PLACES;
-    let mut j: u32 = 0;
-    while j < n {
+    for j in 0..n {
         e = before(ws, plan::PLANE_ROW as usize + j as usize, e);
-        j += 1;
     }
     e
 }
@@ -113,11 +81,9 @@ fn begins(ws: &Words, n: u32) -> usize
 fn last_object(ws: &Words) -> u32
     ensures { (i : ℕ) → i < order_places → word_of ws.now (order_first + i) ≤ result }
 {
-    let mut m: u32 = 0;
-    let mut i: usize = 0;
-    while i < plan::ORDER_WORDS {
-        m = greater(m, word_in(ws, plan::ORDER + i));
-        i += 1;
+    let mut m = 0;
+    for i in 0..plan::ORDER_WORDS {
+        m = plan::word_in(ws, plan::ORDER + i).max(m);
     }
     m
 }
@@ -126,18 +92,11 @@ fn last_object(ws: &Words) -> u32
 fn in_order(ws: &Words, m: u32) -> bool
     ensures { result ≡ true → InOrder ws.now m }
 {
-    if word_in(ws, plan::COUNT_MATERIALS) <= plan::MATERIALS {
-        if word_in(ws, plan::COUNT_PLANES) <= plan::PLANES {
-            if word_in(ws, plan::COUNT_LIGHTS) <= plan::LIGHTS {
-                if m <= plan::OBJECTS {
-                    if last_object(ws) < m {
-                        return true;
-                    }
-                }
-            }
-        }
-    }
-    false
+    plan::word_in(ws, plan::COUNT_MATERIALS) <= plan::MATERIALS
+        && plan::word_in(ws, plan::COUNT_PLANES) <= plan::PLANES
+        && plan::word_in(ws, plan::COUNT_LIGHTS) <= plan::LIGHTS
+        && m <= plan::OBJECTS
+        && last_object(ws) < m
 }
 
 // What a table has from a byte on.
@@ -145,9 +104,10 @@ fn rest(t: &[u8], from: usize) -> &[u8]
     ensures { result.now ≡ drop from t.now }
 {
     if from <= t.len() {
-        return &t[from..];
+        &t[from..]
+    } else {
+        wire::none(t)
     }
-    &t[..0]
 }
 
 // The words from one place up to another are seen as floats.
@@ -158,12 +118,8 @@ fn floats(ws: &Words, fs: &mut Floats, from: usize, to: usize)
     // Only as a slice does a table tell the proof its length.
     let _floats: &[f32] = fs;
     if to <= plan::TABLE {
-        if from <= to {
-            let mut i = from;
-            while i < to {
-                fs[i] = scalar::float(ws[i]);
-                i += 1;
-            }
+        for i in from..to {
+            fs[i] = scalar::float(ws[i]);
         }
     }
 }
@@ -182,10 +138,8 @@ fn rows(plan: &[u8], ws: &mut Words, fs: &mut Floats, first: usize, n: usize)
     ensures { first + n ≤ table_rows → Put (word_at plan.now)
         ws.old ws.new fs.old fs.new (16 * first) (16 * (first + n)) }
 {
-    if n <= plan::ROWS {
-        if first <= plan::ROWS - n {
-            put(rest(plan, 64 * first), ws, fs, 16 * first, 16 * (first + n));
-        }
+    if n <= plan::ROWS && first <= plan::ROWS - n {
+        put(rest(plan, 64 * first), ws, fs, 16 * first, 16 * (first + n));
     }
 }
 
@@ -194,14 +148,12 @@ fn load_cutters(plan: &[u8], ws: &mut Words, fs: &mut Floats, u: usize, v: usize
     ensures { u ≤ cutter_places → v ≤ cutter_places → WithCutters (word_at plan.now)
         ws.old ws.new fs.old fs.new u v }
 {
-    if v <= PLACES {
-        if u < v {
-            rows(plan, ws, fs, CUTTERS, u);
-            rows(plan, ws, fs, CUTTERS + v, PLACES - v);
-            return;
-        }
+    if u < v && v <= PLACES {
+        rows(plan, ws, fs, CUTTERS, u);
+        rows(plan, ws, fs, CUTTERS + v, PLACES - v);
+    } else {
+        rows(plan, ws, fs, CUTTERS, PLACES);
     }
-    rows(plan, ws, fs, CUTTERS, PLACES);
 }
 
 // As many words of nodes as a tree of m objects may have.
@@ -209,8 +161,7 @@ fn nodes_end(m: u32) -> usize
     ensures { (result ≤ order_first) × (nodes_first ≤ result)
         × ((i : ℕ) → i < nodes_first + 18 * m → i < order_first → i < result) }
 {
-    let e = plan::NODES + TWO_NODES * m as usize;
-    if e < plan::ORDER { e } else { plan::ORDER }
+    plan::ORDER.min(plan::NODES + TWO_NODES * m as usize)
 }
 
 // The rows of the lists, with m objects.
@@ -219,9 +170,9 @@ fn load_lists(plan: &[u8], ws: &mut Words, fs: &mut Floats, m: u32)
         → Filled t ws.old fs.old Early → InOrder ws.old m
         → Filled t ws.new fs.new (Listed t m) }
 {
-    let materials = word_in(ws, plan::COUNT_MATERIALS);
-    let planes = word_in(ws, plan::COUNT_PLANES);
-    let lights = word_in(ws, plan::COUNT_LIGHTS);
+    let materials = plan::word_in(ws, plan::COUNT_MATERIALS);
+    let planes = plan::word_in(ws, plan::COUNT_PLANES);
+    let lights = plan::word_in(ws, plan::COUNT_LIGHTS);
     rows(
         plan,
         ws,
@@ -243,15 +194,13 @@ fn load_used(plan: &[u8], nodes: &[u8], ws: &mut Words, fs: &mut Floats, m: u32)
         → (result ≡ true → Spared t ws.new) × Filled t ws.new fs.new Early }
 {
     load_lists(plan, ws, fs, m);
-    let planes = word_in(ws, plan::COUNT_PLANES);
+    let planes = plan::word_in(ws, plan::COUNT_PLANES);
     let u = ends(ws, plan::OBJECT_ROW, m);
-    if u <= PLACES {
-        if ends(ws, plan::PLANE_ROW, planes) <= PLACES {
-            let v = begins(ws, planes);
-            put(nodes, ws, fs, plan::NODES, nodes_end(m));
-            load_cutters(plan, ws, fs, u, v);
-            return true;
-        }
+    if u <= PLACES && ends(ws, plan::PLANE_ROW, planes) <= PLACES {
+        let v = begins(ws, planes);
+        put(nodes, ws, fs, plan::NODES, nodes_end(m));
+        load_cutters(plan, ws, fs, u, v);
+        return true;
     }
     false
 }
@@ -262,7 +211,8 @@ fn load_all(plan: &[u8], nodes: &[u8], ws: &mut Words, fs: &mut Floats)
         → Begun plan.now nodes.now t ws.old fs.old
         → Spared t ws.new × Shown ws.new fs.new }
 {
-    rows(plan, ws, fs, 0, PLAN_ROWS);
+    // The arguments' row is the first behind the plan's.
+    rows(plan, ws, fs, 0, plan::ARGS_ROW as usize);
     put(nodes, ws, fs, plan::NODES, plan::ORDER);
 }
 
@@ -289,12 +239,8 @@ fn load(plan: &[u8], args: &[u8], nodes: &[u8], order: &[u8], ws: &mut Words, fs
         ws.new × (fs.new ≡ seen ws.new) }
 {
     load_early(plan, args, order, ws, fs);
-    let m = greater(1, word_in(ws, plan::COUNT_OBJECTS));
-    if in_order(ws, m) {
-        if load_used(plan, nodes, ws, fs, m) {
-            return;
-        }
-        load_all(plan, nodes, ws, fs);
+    let m = plan::word_in(ws, plan::COUNT_OBJECTS).max(1);
+    if in_order(ws, m) && load_used(plan, nodes, ws, fs, m) {
         return;
     }
     load_all(plan, nodes, ws, fs);

@@ -1,4 +1,5 @@
 -- `viewer_diffuse_albedo` meets its contract: what is sent is the call's reply. Assumes nothing.
+use Rattle.std.proofs.Common.{rules}
 use Rattle.viewer.specs.Calls.{diffuse_albedo_lent}
 use Rattle.wire.proofs.Replies.{sent_as}
 use Rattle.viewer.proofs.viewer_diffuse_albedo.Goals as goal
@@ -6,11 +7,7 @@ use Rattle.viewer.proofs.viewer_diffuse_albedo.Goals as goal
 pub returns : goal.returns
 unfolding diffuse_albedo_lent
 returns c =
-    sent_as
-    (rw (
-      c.diffuse_albedo.ensures,
-      c.material_in.ensures,
-      c.lent-a.ensures,
-      c.args_before-n.ensures,
-    ))
-    c.send.ensures
+    let e = c.answer.ensures in
+    let reply = e.2 in
+    let lent = e.3 in
+    sent_as (search rules) e.4

@@ -7,6 +7,6 @@ pub returns-then-full-t : goal.returns-then-full-t
 unfolding lent_of
 returns-then-full-t c = simp (le-leb _ _ c.if-full-t.true)
 
-pub returns : goal.returns
+pub returns-else-full-t : goal.returns-else-full-t
 unfolding lent_of
-returns c = simp (lt-leb _ _ c.if-full-t.false)
+returns-else-full-t c = simp (lt-leb _ _ c.if-full-t.false) c.none.ensures

@@ -7,6 +7,6 @@ pub returns-then-tree-eq1 : goal.returns-then-tree-eq1
 unfolding used_of
 returns-then-tree-eq1 c = simp (eq-eqb _ 1 c.if-tree-eq1.true) c.lent.ensures
 
-pub returns : goal.returns
+pub returns-else-tree-eq1 : goal.returns-else-tree-eq1
 unfolding used_of
-returns c = simp (ne_eqb _ 1 c.if-tree-eq1.false) c.none.ensures
+returns-else-tree-eq1 c = simp (ne_eqb _ 1 c.if-tree-eq1.false) c.none.ensures

@@ -1,4 +1,4 @@
--- `wire_tree::build_stores` meets its contract: each return is a case of `build_stores`. Assumes nothing.
+-- `wire_tree::build_stores` meets its contract: each way of its test is a case of `build_stores`. Assumes nothing.
 use borrow.Author.Tests.{eq-eqb, ne_eqb}
 use Rattle.wire_tree.specs.Trees.{build_stores}
 use Rattle.wire_tree.proofs.build_stores.Goals as goal
@@ -7,6 +7,6 @@ pub returns-then-number-eq0 : goal.returns-then-number-eq0
 unfolding build_stores
 returns-then-number-eq0 c = simp (eq-eqb _ 0 c.if-number-eq0.true)
 
-pub returns : goal.returns
+pub returns-else-number-eq0 : goal.returns-else-number-eq0
 unfolding build_stores
-returns c = simp (ne_eqb _ 0 c.if-number-eq0.false)
+returns-else-number-eq0 c = simp (ne_eqb _ 0 c.if-number-eq0.false)

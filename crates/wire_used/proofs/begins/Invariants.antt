@@ -1,10 +1,7 @@
--- What the loops of `wire_used::begins` keep, and what falls.
-use Prim.Native.Nat.{ℕ, ◌+◌, ◌-◌, ◌<◌, ◌≤◌}
+-- What the loop of `wire_used::begins` keeps.
+use Prim.Native.Nat.{ℕ, ◌+◌, ◌<◌, ◌≤◌}
 use Rattle.wire_used.specs.Inside.Used.{Begins}
 use Rattle.wire_used.proofs.begins.Given as goal
 
 abbrev pub invariant-loop-j : goal.invariant-loop-j
-invariant-loop-j l = (l.j ≤ l.n) × (l.e ≤ 1024) × ((k : ℕ) → k < l.j → Begins l.ws l.e (65 + k))
-
-abbrev pub decreases-loop-j : goal.decreases-loop-j
-decreases-loop-j l = l.n - l.j
+invariant-loop-j l = (l.e ≤ 1024) × ((k : ℕ) → k < l.j → Begins l.ws l.e (65 + k))

@@ -1,10 +1,6 @@
--- What the loops of `wire_used::floats` keep, and what falls.
-use Prim.Native.Nat.{◌-◌, ◌≤◌}
+-- What the loop of `wire_used::floats` keeps.
 use Rattle.wire_used.specs.Inside.Used.{Seen}
 use Rattle.wire_used.proofs.floats.Given as goal
 
 abbrev pub invariant-loop-i : goal.invariant-loop-i
-invariant-loop-i l = (l.from ≤ l.i) × (l.i ≤ l.to) × Seen l.ws l.initial.fs l.fs l.from l.i
-
-abbrev pub decreases-loop-i : goal.decreases-loop-i
-decreases-loop-i l = l.to - l.i
+invariant-loop-i l = Seen l.ws l.initial.fs l.fs l.from l.i

@@ -1,7 +1,6 @@
 -- `wire_used::load_used` meets its contract: by what each part of the table holds. Assumes nothing.
-use mathlib.Core.Bool.{false≢true}
 use native.Mathlib.Omega.{arith}
-use Rattle.wire_used.proofs.Loads.{used_law, early_kept}
+use Rattle.wire_used.proofs.Loads.{used_law}
 use Rattle.wire_used.proofs.load_used.Goals as goal
 
 pub returns-then-ends-le-PLACES : goal.returns-then-ends-le-PLACES
@@ -14,17 +13,3 @@ returns-then-ends-le-PLACES c =
     c.word_in-planes.ensures c.ends-u.ensures low c.ends.ensures c.if-ends-le-PLACES.true last.0 last.2
     (c.put.ensures last.1 (omega (arith, last.0))) c.begins-v.ensures.1 (c.load_cutters.ensures low most) in
     (λ _. r.0, r.1)
-
-pub returns-else-ends-le-PLACES : goal.returns-else-ends-le-PLACES
-returns-else-ends-le-PLACES c =
-    λ t b o few. (
-      λ e. absurd (false≢true e),
-      early_kept t _ _ _ (c.load_lists.ensures t b.plan_is b.filled o),
-    )
-
-pub returns-else-u-le-PLACES : goal.returns-else-u-le-PLACES
-returns-else-u-le-PLACES c =
-    λ t b o few. (
-      λ e. absurd (false≢true e),
-      early_kept t _ _ _ (c.load_lists.ensures t b.plan_is b.filled o),
-    )

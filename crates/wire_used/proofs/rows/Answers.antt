@@ -7,9 +7,3 @@ pub returns-then-first-n : goal.returns-then-first-n
 returns-then-first-n c = λ h.
     rows_law _ _ _ _ _ _ _ _ c.rest.ensures
     (c.put.ensures (omega arith) (omega (arith, h)))
-
-pub returns-else-first-n : goal.returns-else-first-n
-returns-else-first-n c = λ h. let no : ⊥ = omega (arith, h, c.if-first-n.false, c.if-n-le-ROWS.true) in absurd no
-
-pub returns-else-n-le-ROWS : goal.returns-else-n-le-ROWS
-returns-else-n-le-ROWS c = λ h. let no : ⊥ = omega (arith, h, c.if-n-le-ROWS.false) in absurd no

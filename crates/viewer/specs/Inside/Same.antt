@@ -23,6 +23,13 @@ use Rattle.reply.specs.Reply.{reply_of}
 use Rattle.bemitondry_ask.specs.Asks.{query_reply, dist_mat_reply}
 use Rattle.bemitondry_ask.specs.Marches.{trace_reply, shadow_reply}
 use Rattle.bemitondry_light.specs.Light.{lit_ask, direct_reply, direct_diffuse_reply}
+use Rattle.viewer.specs.Calls.{Ask}
+
+-- a call that replies alike where it reads the same
+abbrev pub Reads : Ask → Type 0
+Reads call =
+    (before tree : ℕ) (v w : List ℕ) (f g : List Float) → Same v w f g → Alike 16 v w f g 1393 1393
+    → call before tree v f ≡ call before tree w g
 
 -- replies need agree only where the number is 0
 reply_when : (n : ℕ) (r r' : Reply) → (n ≡ 0 → r ≡ r') → reply_of n r ≡ reply_of n r'
