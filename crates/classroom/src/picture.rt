@@ -1,7 +1,20 @@
 // The room from above, in marks: 20 lines of 48, each mark for 0.2 m by 0.4 m of the room.
+use crate::number::rounded;
 use crate::pieces::at;
-use crate::{pieces, room, survey, text};
-use std::io;
+use crate::room::Material;
+use crate::tables::Tables;
+use crate::{report, room};
+use std::{fmt, io};
+
+const WIDTH: usize = 48;
+
+pub const PLACES: usize = 960;
+
+// A mark for each 50 lux.
+const SHADES: [char; 10] = [' ', '.', ':', '-', '=', '+', '*', '#', '%', '@'];
+
+// A mark for each tenth.
+const TENTHS: [char; 11] = [' ', '1', '2', '3', '4', '5', '6', '7', '8', '9', 'X'];
 
 // The middle of place i.
 fn place_x(i: u16) -> f32 {
@@ -12,122 +25,87 @@ fn place_z(i: u16) -> f32 {
     0.2 + 0.4 * ((i / 48) as f32)
 }
 
-fn light(plan: &[u8], nodes: &[u8], order: &[u8], i: u16) -> f32 {
-    survey::light_at(plan, nodes, order, place_x(i), place_z(i)).lux
+fn light(tables: &Tables, i: u16) -> f32 {
+    tables
+        .light(room::on_desk(place_x(i), place_z(i)))
+        .map_or(0.0, |l| l.lux)
 }
 
 // A letter for what a ray from the ceiling down meets first.
-fn seen(plan: &[u8], nodes: &[u8], order: &[u8], i: u16) -> u8 {
-    let mut args = [0u8; 32];
-    let mut out = [0u8; 64];
-    pieces::put_vec(&mut args, 0, at(place_x(i), room::HEIGHT - 0.1, place_z(i)));
-    pieces::put_vec(&mut args, 3, at(0.0, -1.0, 0.0));
-    pieces::put_float(&mut args, 7, room::HEIGHT);
-    viewer::viewer_trace(plan, nodes, order, 1, &args, &mut out);
-    match words::word(&out, 5) {
-        room::DESK => b'D',
-        room::CHAIR => b'c',
-        room::SHELF => b'S',
-        room::TEACHER => b'T',
-        _ => b' ',
+fn seen(tables: &Tables, i: u16) -> char {
+    let from = at(place_x(i), room::HEIGHT - 0.1, place_z(i));
+    let met = tables.met(from, at(0.0, -1.0, 0.0), room::HEIGHT);
+    match Material::ALL.get(met as usize) {
+        Some(Material::Desk) => 'D',
+        Some(Material::Chair) => 'c',
+        Some(Material::Shelf) => 'S',
+        Some(Material::Teacher) => 'T',
+        _ => ' ',
     }
 }
 
-// A mark for each 50 lux.
-fn shade(lux: f32) -> u8 {
-    match text::thousandths(lux) / 50000 {
-        0 => b' ',
-        1 => b'.',
-        2 => b':',
-        3 => b'-',
-        4 => b'=',
-        5 => b'+',
-        6 => b'*',
-        7 => b'#',
-        8 => b'%',
-        _ => b'@',
-    }
+fn shade(lux: f32) -> char {
+    SHADES[(rounded(lux).0 / 50_000).min(9) as usize]
 }
 
 // How many tenths of the light are lost.
-fn loss(before: f32, after: f32) -> u8 {
-    match text::thousandths(survey::lost(before, after)) / 10000 {
-        0 => b' ',
-        1 => b'1',
-        2 => b'2',
-        3 => b'3',
-        4 => b'4',
-        5 => b'5',
-        6 => b'6',
-        7 => b'7',
-        8 => b'8',
-        9 => b'9',
-        _ => b'X',
-    }
+fn loss(before: f32, after: f32) -> char {
+    TENTHS[(rounded(report::lost(before, after)).0 / 10_000).min(10) as usize]
 }
 
-// The light at each place, and the marks of what stands there and of the light.
-pub fn look(
-    plan: &[u8],
-    nodes: &[u8],
-    order: &[u8],
-    lux: &mut [f32; 960],
-    left: &mut [u8; 960],
-    right: &mut [u8; 960],
-) {
-    let mut i: u16 = 0;
-    while i < 960 {
-        let here = light(plan, nodes, order, i);
-        lux[i as usize] = here;
-        left[i as usize] = seen(plan, nodes, order, i);
-        right[i as usize] = shade(here);
-        i += 1;
-    }
-}
+// A line of marks.
+#[derive(Clone, Copy)]
+struct Line<'a>(&'a [char]);
 
-// The marks of the light that is lost, and of the light now.
-pub fn look_again(
-    plan: &[u8],
-    nodes: &[u8],
-    order: &[u8],
-    lux: &[f32; 960],
-    left: &mut [u8; 960],
-    right: &mut [u8; 960],
-) {
-    let mut i: u16 = 0;
-    while i < 960 {
-        let here = light(plan, nodes, order, i);
-        left[i as usize] = loss(lux[i as usize], here);
-        right[i as usize] = shade(here);
-        i += 1;
+impl fmt::Display for Line<'_> {
+    fn fmt<W: fmt::Write>(&self, f: &mut fmt::Formatter<W>) -> fmt::Result {
+        for mark in self.0 {
+            f.write_char(*mark)?;
+        }
+        Ok(())
     }
-}
-
-fn border(rt: &impl Print) -> io::Result<()> {
-    text::say(rt, b"+------------------------------------------------")?;
-    text::say(rt, b"+------------------------------------------------+\n")
-}
-
-// Line k of a picture.
-fn line(rt: &impl Print, marks: &[u8], k: u8) -> io::Result<()> {
-    let from = 48 * (k as usize);
-    if from + 48 <= marks.len() {
-        return text::say(rt, &marks[from..from + 48]);
-    }
-    Ok(())
 }
 
 // Two pictures side by side.
-pub fn show(rt: &impl Print, left: &[u8; 960], right: &[u8; 960]) -> io::Result<()> {
-    border(rt)?;
-    let mut k: u8 = 0;
-    while k < 20 {
-        text::say(rt, b"|")?;
-        line(rt, left, k)?;
-        text::say(rt, b"|")?;
-        line(rt, right, k)?;
-        text::say(rt, b"|\n")?;
-        k += 1;
+fn show(rt: &impl Print, left: &[char; PLACES], right: &[char; PLACES]) -> io::Result<()> {
+    let border = Line(&['-'; WIDTH]);
+    println!(rt; "+{border}+{border}+")?;
+    for (left, right) in left.chunks(WIDTH).zip(right.chunks(WIDTH)) {
+        println!(rt; "|{}|{}|", Line(left), Line(right))?;
     }
-    border(rt)
+    println!(rt; "+{border}+{border}+")
+}
+
+// What stands in the room and the light at each place, which is left in `lux`.
+pub fn look(rt: &impl Print, tables: &Tables, lux: &mut [f32; PLACES]) -> io::Result<()> {
+    println!(rt; "\nFrom above, the board's wall on top")?;
+    println!(rt; "  left: D desk, c chair, T teacher's desk, S shelf")?;
+    println!(rt;
+        "  right: the light at the desks' height, a mark for each 50 lux: blank . : - = + * # % @"
+    )?;
+    let mut left = [' '; PLACES];
+    let mut right = [' '; PLACES];
+    for i in 0..PLACES as u16 {
+        let here = light(tables, i);
+        lux[i as usize] = here;
+        left[i as usize] = seen(tables, i);
+        right[i as usize] = shade(here);
+    }
+    show(rt, &left, &right)
+}
+
+// The light that is lost since `lux` was left, and the light now.
+pub fn look_again(rt: &impl Print, tables: &Tables, lux: &[f32; PLACES]) -> io::Result<()> {
+    println!(rt; "\nFrom above")?;
+    println!(rt;
+        "  left: tenths of the light that are lost, X all ten; right: the light, as before"
+    )?;
+    let mut left = [' '; PLACES];
+    let mut right = [' '; PLACES];
+    for i in 0..PLACES as u16 {
+        let here = light(tables, i);
+        left[i as usize] = loss(lux[i as usize], here);
+        right[i as usize] = shade(here);
+    }
+    show(rt, &left, &right)
 }

@@ -1,132 +1,131 @@
 // Sentences and tables of the report.
-use crate::survey::Light;
-use crate::{room, survey, text};
+use crate::number::{Metres, rounded};
+use crate::refusal::Refusal;
+use crate::room;
+use crate::room::DESKS;
+use crate::tables::{Light, Tables};
 use std::io;
 
-// The tree is built, or it is said why not.
-pub fn build(rt: &impl Print, plan: &[u8], nodes: &mut [u8], order: &mut [u8]) -> io::Result<()> {
-    let mut out = [0u8; 64];
-    let number = viewer::viewer_build(plan, nodes, order, &mut out);
-    text::say(rt, b"  the tree of ")?;
-    text::number(rt, words::word(plan, 3) as u64, 1)?;
-    if number > 0 {
-        return text::told(rt, b" pieces: ", number);
+// A line of what was asked and what became of it.
+pub fn told(rt: &impl Print, what: &str, outcome: Result<(), Refusal>) -> io::Result<()> {
+    match outcome {
+        Ok(()) => println!(rt; "  {what}: done"),
+        Err(refusal) => println!(rt; "  {what}: {refusal}"),
     }
-    text::say(rt, b" pieces: built, ")?;
-    text::number(rt, words::word(&out, 0) as u64, 1)?;
-    text::say(rt, b" nodes\n")
+}
+
+// An entry is told of where it is refused.
+pub fn entered(rt: &impl Print, outcome: Result<(), Refusal>) -> io::Result<()> {
+    match outcome {
+        Ok(()) => Ok(()),
+        Err(_) => told(rt, "a piece", outcome),
+    }
+}
+
+// The tree is built, or it is said why not.
+pub fn build(rt: &impl Print, tables: &mut Tables) -> io::Result<()> {
+    let pieces = tables.objects();
+    match tables.build() {
+        Ok(nodes) => println!(rt; "  the tree of {pieces} pieces: built, {nodes} nodes"),
+        Err(refusal) => println!(rt; "  the tree of {pieces} pieces: {refusal}"),
+    }
 }
 
 pub fn room(rt: &impl Print) -> io::Result<()> {
-    text::say(rt, b"\nThe room\n  ")?;
-    text::metres(rt, room::WIDTH, b" wide, ")?;
-    text::metres(rt, room::DEPTH, b" deep, ")?;
-    text::metres(
-        rt,
-        room::HEIGHT,
-        b" high, with a niche for the door in its back wall\n  20 desks, ",
+    println!(rt;
+        "\nThe room\n  {} wide, {} deep, {} high, with a niche for the door in its back wall",
+        Metres(room::WIDTH),
+        Metres(room::DEPTH),
+        Metres(room::HEIGHT)
     )?;
-    text::metres(
-        rt,
-        room::DESK_HEIGHT,
-        b" high, and their chairs; the teacher's desk and chair; 4 shelves; the board\n",
+    println!(rt;
+        "  {DESKS} desks, {} high, and their chairs; the teacher's desk and chair; 4 shelves; the board",
+        Metres(room::DESK_HEIGHT)
     )
 }
 
 pub fn lamps(rt: &impl Print) -> io::Result<()> {
-    text::say(rt, b"  6 lamps in two rows, ")?;
-    text::metres(rt, room::LAMP_WIDTH, b" by ")?;
-    text::metres(rt, room::LAMP_DEPTH, b", ")?;
-    text::metres(rt, room::LAMP_HEIGHT, b" above the floor, ")?;
-    text::float(rt, room::LAMP_LIGHT, 1)?;
-    text::say(rt, b" lumens a square metre\n")
+    println!(rt;
+        "  6 lamps in two rows, {} by {}, {} above the floor, {} lumens a square metre",
+        Metres(room::LAMP_WIDTH),
+        Metres(room::LAMP_DEPTH),
+        Metres(room::LAMP_HEIGHT),
+        rounded(room::LAMP_LIGHT)
+    )
 }
 
-fn verdict(rt: &impl Print, lux: f32) -> io::Result<()> {
+fn verdict(lux: f32) -> &'static str {
     if lux == 0.0 {
-        text::say(rt, b"  no lamp reaches it\n")
+        "no lamp reaches it"
     } else if lux < 300.0 {
-        text::say(rt, b"  too dark\n")
+        "too dark"
     } else {
-        text::say(rt, b"  enough\n")
+        "enough"
     }
 }
 
 // Row and place of desk k, counted from 1.
 fn seat(rt: &impl Print, k: u8) -> io::Result<()> {
-    text::number(rt, (k / 4) as u64 + 1, 5)?;
-    text::number(rt, (k % 4) as u64 + 1, 7)
+    print!(rt; "{:>5}{:>7}", k / 4 + 1, k % 4 + 1)
 }
 
-fn desk(rt: &impl Print, k: u8, light: Light) -> io::Result<()> {
+pub fn desk_light(tables: &Tables, k: u8) -> Result<Light, Refusal> {
+    tables.light(room::on_desk(room::desk_x(k), room::desk_z(k)))
+}
+
+fn desk(rt: &impl Print, k: u8, light: Result<Light, Refusal>) -> io::Result<()> {
     seat(rt, k)?;
-    text::float(rt, room::desk_x(k), 8)?;
-    text::float(rt, room::desk_z(k), 8)?;
-    if light.number > 0 {
-        return text::told(rt, b"  ", light.number);
+    print!(rt;
+        "{:>12}{:>12}",
+        rounded(room::desk_x(k)),
+        rounded(room::desk_z(k))
+    )?;
+    match light {
+        Ok(Light { lux, evaluations }) => {
+            println!(rt; "{:>12}{evaluations:>13}  {}", rounded(lux), verdict(lux))
+        }
+        Err(refusal) => println!(rt; "  {refusal}"),
     }
-    text::float(rt, light.lux, 8)?;
-    text::number(rt, light.evaluations as u64, 13)?;
-    verdict(rt, light.lux)
 }
 
 // A line for each desk, whose light is left in `lux`.
-pub fn desks(
-    rt: &impl Print,
-    plan: &[u8],
-    nodes: &[u8],
-    order: &[u8],
-    lux: &mut [f32; 20],
-) -> io::Result<()> {
-    text::say(
-        rt,
-        b"\nThe desks\n  row  place   from left  from board         lux  evaluations\n",
-    )?;
-    let mut k: u8 = 0;
-    while k < 20 {
-        let light = survey::desk_light(plan, nodes, order, k);
-        lux[k as usize] = light.lux;
+pub fn desks(rt: &impl Print, tables: &Tables, lux: &mut [f32; DESKS]) -> io::Result<()> {
+    println!(rt; "\nThe desks\n  row  place   from left  from board         lux  evaluations")?;
+    for (k, left) in (0u8..).zip(lux) {
+        let light = desk_light(tables, k);
+        *left = light.map_or(0.0, |l| l.lux);
         desk(rt, k, light)?;
-        k += 1;
     }
     Ok(())
 }
 
-// A desk's line, where it loses a percent of its light or more.
-fn change(rt: &impl Print, k: u8, before: f32, after: f32) -> io::Result<()> {
-    let lost = survey::lost(before, after);
-    if lost < 1.0 {
-        return Ok(());
+// How much of the light is lost, in percent.
+pub fn lost(before: f32, after: f32) -> f32 {
+    if before > after {
+        100.0 * (before - after) / before
+    } else {
+        0.0
     }
-    seat(rt, k)?;
-    text::float(rt, before, 8)?;
-    text::float(rt, after, 8)?;
-    text::float(rt, lost, 6)?;
-    text::say(rt, b" %")?;
-    verdict(rt, after)
 }
 
-pub fn changes(
-    rt: &impl Print,
-    plan: &[u8],
-    nodes: &[u8],
-    order: &[u8],
-    lux: &[f32; 20],
-) -> io::Result<()> {
-    text::say(
-        rt,
-        b"\nThe desks that lose a percent of their light or more\n",
-    )?;
-    text::say(rt, b"  row  place      before       after        lost\n")?;
-    let mut k: u8 = 0;
-    while k < 20 {
-        change(
-            rt,
-            k,
-            lux[k as usize],
-            survey::desk_light(plan, nodes, order, k).lux,
-        )?;
-        k += 1;
+// A line for each desk that loses a percent of its light or more.
+pub fn changes(rt: &impl Print, tables: &Tables, lux: &[f32; DESKS]) -> io::Result<()> {
+    println!(rt; "\nThe desks that lose a percent of their light or more")?;
+    println!(rt; "  row  place      before       after        lost")?;
+    for (k, before) in (0u8..).zip(lux) {
+        let before = *before;
+        let after = desk_light(tables, k).map_or(0.0, |l| l.lux);
+        let lost = lost(before, after);
+        if lost >= 1.0 {
+            seat(rt, k)?;
+            println!(rt;
+                "{:>12}{:>12}{:>10} %  {}",
+                rounded(before),
+                rounded(after),
+                rounded(lost),
+                verdict(after)
+            )?;
+        }
     }
     Ok(())
 }

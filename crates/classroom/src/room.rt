@@ -1,30 +1,55 @@
 // The classroom, in metres: x goes along the board's wall, y up, z from the board to the back.
-use crate::pieces::{Piece, at, bar, block, less};
-use crate::{pieces, text};
+use crate::pieces::{Piece, Solid, at, bar, block};
+use crate::report;
+use crate::tables::Tables;
 use std::io;
 use vectors::Vec3;
 
-pub const WALL: u32 = 0;
+// In the order in which they enter the plan.
+#[derive(Clone, Copy, Debug, PartialEq, Eq)]
+pub enum Material {
+    Wall,
+    Floor,
+    Desk,
+    Chair,
+    Shelf,
+    Board,
+    Teacher,
+    Cabinet,
+}
 
-pub const FLOOR: u32 = 1;
+impl Material {
+    pub const ALL: [Material; 8] = [
+        Material::Wall,
+        Material::Floor,
+        Material::Desk,
+        Material::Chair,
+        Material::Shelf,
+        Material::Board,
+        Material::Teacher,
+        Material::Cabinet,
+    ];
 
-pub const DESK: u32 = 2;
-
-pub const CHAIR: u32 = 3;
-
-pub const SHELF: u32 = 4;
-
-pub const BOARD: u32 = 5;
-
-pub const TEACHER: u32 = 6;
-
-pub const CABINET: u32 = 7;
+    // How much of the light it sends back.
+    fn grey(self) -> f32 {
+        match self {
+            Material::Wall => 0.8,
+            Material::Floor => 0.3,
+            Material::Desk => 0.6,
+            Material::Chair => 0.4,
+            Material::Board => 0.1,
+            Material::Shelf | Material::Teacher | Material::Cabinet => 0.5,
+        }
+    }
+}
 
 pub const WIDTH: f32 = 9.6;
 
 pub const DEPTH: f32 = 8.0;
 
 pub const HEIGHT: f32 = 3.0;
+
+pub const DESKS: usize = 20;
 
 pub const DESK_HEIGHT: f32 = 0.75;
 
@@ -33,49 +58,9 @@ pub const LAMP_HEIGHT: f32 = 2.75;
 pub const LAMP_WIDTH: f32 = 1.2;
 
 pub const LAMP_DEPTH: f32 = 0.6;
+
 // In lumens a square metre.
 pub const LAMP_LIGHT: f32 = 7000.0;
-
-fn grey(material: u8) -> f32 {
-    match material {
-        0 => 0.8,
-        1 => 0.3,
-        2 => 0.6,
-        3 => 0.4,
-        5 => 0.1,
-        _ => 0.5,
-    }
-}
-
-// Side k of the room, the floor first: the points p with normal . p = h.
-fn side_normal(k: u8) -> Vec3 {
-    match k {
-        0 => at(0.0, 1.0, 0.0),
-        1 => at(0.0, -1.0, 0.0),
-        2 => at(1.0, 0.0, 0.0),
-        3 => at(-1.0, 0.0, 0.0),
-        4 => at(0.0, 0.0, 1.0),
-        _ => at(0.0, 0.0, -1.0),
-    }
-}
-
-fn side_h(k: u8) -> f32 {
-    match k {
-        1 => -HEIGHT,
-        3 => -WIDTH,
-        5 => -DEPTH,
-        _ => 0.0,
-    }
-}
-
-// The middle of lamp k: two rows of three.
-fn lamp_x(k: u8) -> f32 {
-    1.9 + 2.9 * ((k % 3) as f32)
-}
-
-fn lamp_z(k: u8) -> f32 {
-    2.6 + 3.2 * ((k / 3) as f32)
-}
 
 // The middle of desk k: five rows of four, an aisle in the middle.
 pub fn desk_x(k: u8) -> f32 {
@@ -91,177 +76,156 @@ pub fn desk_z(k: u8) -> f32 {
     2.2 + 1.2 * ((k / 4) as f32)
 }
 
+// A millimetre above the desks' height.
+pub fn on_desk(x: f32, z: f32) -> Vec3 {
+    at(x, DESK_HEIGHT + 0.001, z)
+}
+
+// A side of the room: the points p with normal . p = h.
+fn side<const N: usize>(material: Material, normal: Vec3, h: f32, cutters: [Solid; N]) -> Piece<N> {
+    Piece {
+        material: material as u32,
+        body: Solid::Half { normal, h },
+        cutters,
+    }
+}
+
 // A desk's top, w by d, with a slot for cables.
-fn top(material: u32, x: f32, z: f32, w: f32, d: f32) -> Piece {
+fn top(material: Material, x: f32, z: f32, w: f32, d: f32) -> Piece<1> {
     let y = DESK_HEIGHT - 0.015;
-    let slot = block(at(x, y, z - d * 0.4), at(w * 0.4, 0.1, 0.05));
-    less(material, block(at(x, y, z), at(w, 0.03, d)), slot)
+    Piece {
+        material: material as u32,
+        body: block(at(x, y, z), at(w, 0.03, d)),
+        cutters: [block(at(x, y, z - d * 0.4), at(w * 0.4, 0.1, 0.05))],
+    }
 }
 
 // What it stands on: a block less the room for the knees, so two sides and a panel.
-fn stand(material: u32, x: f32, z: f32, w: f32, d: f32) -> Piece {
+fn stand(material: Material, x: f32, z: f32, w: f32, d: f32) -> Piece<1> {
     let y = DESK_HEIGHT * 0.5 - 0.015;
-    let body = block(at(x, y, z), at(w - 0.1, DESK_HEIGHT - 0.03, d - 0.1));
-    let knees = block(at(x, y, z + 0.05), at(w - 0.2, DESK_HEIGHT, d - 0.1));
-    less(material, body, knees)
+    Piece {
+        material: material as u32,
+        body: block(at(x, y, z), at(w - 0.1, DESK_HEIGHT - 0.03, d - 0.1)),
+        cutters: [block(at(x, y, z + 0.05), at(w - 0.2, DESK_HEIGHT, d - 0.1))],
+    }
 }
 
 // A block less what is above the seat, what is below it, and a hole for the hand in the back, which is on the board's
 // side (-1) or on the other (1).
-fn chair(x: f32, z: f32, side: f32) -> Piece {
+fn chair(x: f32, z: f32, side: f32) -> Piece<3> {
     let back = z + 0.19 * side;
     Piece {
-        material: CHAIR,
+        material: Material::Chair as u32,
         body: block(at(x, 0.42, z), at(0.42, 0.84, 0.42)),
-        cutters: 3,
-        first: block(at(x, 0.72, z - 0.1 * side), at(0.5, 0.5, 0.54)),
-        second: block(at(x, 0.19, z), at(0.36, 0.5, 0.5)),
-        third: bar(at(x - 0.08, 0.74, back), at(x + 0.08, 0.74, back), 0.03),
+        cutters: [
+            block(at(x, 0.72, z - 0.1 * side), at(0.5, 0.5, 0.54)),
+            block(at(x, 0.19, z), at(0.36, 0.5, 0.5)),
+            bar(at(x - 0.08, 0.74, back), at(x + 0.08, 0.74, back), 0.03),
+        ],
     }
 }
 
 // At the left wall, with three compartments.
-fn shelf(z: f32) -> Piece {
+fn shelf(z: f32) -> Piece<3> {
     Piece {
-        material: SHELF,
+        material: Material::Shelf as u32,
         body: block(at(0.2, 0.9, z), at(0.36, 1.8, 1.0)),
-        cutters: 3,
-        first: block(at(0.26, 0.35, z), at(0.36, 0.5, 0.92)),
-        second: block(at(0.26, 0.9, z), at(0.36, 0.5, 0.92)),
-        third: block(at(0.26, 1.45, z), at(0.36, 0.5, 0.92)),
+        cutters: [
+            block(at(0.26, 0.35, z), at(0.36, 0.5, 0.92)),
+            block(at(0.26, 0.9, z), at(0.36, 0.5, 0.92)),
+            block(at(0.26, 1.45, z), at(0.36, 0.5, 0.92)),
+        ],
     }
 }
 
 // With a groove for chalk.
-fn board() -> Piece {
-    let groove = bar(at(3.0, 1.02, 0.08), at(6.6, 1.02, 0.08), 0.02);
-    less(BOARD, block(at(4.8, 1.6, 0.05), at(4.0, 1.2, 0.06)), groove)
+fn board() -> Piece<1> {
+    Piece {
+        material: Material::Board as u32,
+        body: block(at(4.8, 1.6, 0.05), at(4.0, 1.2, 0.06)),
+        cutters: [bar(at(3.0, 1.02, 0.08), at(6.6, 1.02, 0.08), 0.02)],
+    }
 }
 
 // Tall, in the aisle, with a compartment that is open to the left.
-pub fn cabinet(material: u32) -> Piece {
-    let compartment = block(at(4.3, 1.7, 4.6), at(0.5, 0.7, 2.2));
-    less(
+pub fn cabinet(material: u32) -> Piece<1> {
+    Piece {
         material,
-        block(at(4.5, 1.1, 4.6), at(0.5, 2.2, 2.4)),
-        compartment,
-    )
-}
-
-// Part k of a desk and its chair.
-fn seat_piece(x: f32, z: f32, k: u8) -> Piece {
-    match k {
-        0 => top(DESK, x, z, 1.3, 0.6),
-        1 => stand(DESK, x, z, 1.3, 0.6),
-        _ => chair(x, z + 0.55, 1.0),
+        body: block(at(4.5, 1.1, 4.6), at(0.5, 2.2, 2.4)),
+        cutters: [block(at(4.3, 1.7, 4.6), at(0.5, 0.7, 2.2))],
     }
 }
 
-// Three pieces for each desk, then the others.
-fn room_piece(k: u8) -> Piece {
-    match k {
-        0..=59 => seat_piece(desk_x(k / 3), desk_z(k / 3), k % 3),
-        60 => top(TEACHER, 2.6, 1.2, 1.8, 0.8),
-        61 => stand(TEACHER, 2.6, 1.2, 1.8, 0.8),
-        62 => chair(2.6, 0.6, -1.0),
-        63 => board(),
-        _ => shelf(3.0 + 1.2 * ((k % 4) as f32)),
-    }
-}
-
-pub fn add_materials(rt: &impl Print, plan: &mut [u8]) -> io::Result<()> {
-    let mut k: u8 = 0;
-    while k < 8 {
-        let mut args = [0u8; 20];
-        let mut out = [0u8; 64];
-        let g = grey(k);
-        pieces::put_vec(&mut args, 0, at(g, g, g));
-        pieces::put_float(&mut args, 3, 0.5);
-        text::entered(rt, viewer::viewer_add_material(plan, &args, &mut out))?;
-        k += 1;
+pub fn add_materials(rt: &impl Print, tables: &mut Tables) -> io::Result<()> {
+    for material in Material::ALL {
+        report::entered(rt, tables.add_material(material.grey()))?;
     }
     Ok(())
 }
 
-// Only the back wall, side 5, has a cutter: a niche for the door.
-fn put_door(args: &mut [u8], k: u8) {
-    words::put(args, 2, (k / 5) as u32);
-    pieces::put_solid(args, 16, block(at(8.8, 1.05, DEPTH), at(0.9, 2.1, 0.4)));
-}
-
-fn put_side(args: &mut [u8], k: u8) {
-    words::put(args, 0, if k == 0 { FLOOR } else { WALL });
-    words::put(args, 3, 2);
-    pieces::put_vec(args, 4, side_normal(k));
-    pieces::put_float(args, 7, side_h(k));
-    put_door(args, k);
-}
-
-fn add_sides(rt: &impl Print, plan: &mut [u8]) -> io::Result<()> {
-    let mut k: u8 = 0;
-    while k < 6 {
-        let mut args = [0u8; 128];
-        let mut out = [0u8; 64];
-        put_side(&mut args, k);
-        text::entered(rt, viewer::viewer_add_plane(plan, &args, &mut out))?;
-        k += 1;
+// The floor first; the back wall, which is the last, has a niche for the door.
+fn add_sides(rt: &impl Print, tables: &mut Tables) -> io::Result<()> {
+    let plain = [
+        side(Material::Floor, at(0.0, 1.0, 0.0), 0.0, []),
+        side(Material::Wall, at(0.0, -1.0, 0.0), -HEIGHT, []),
+        side(Material::Wall, at(1.0, 0.0, 0.0), 0.0, []),
+        side(Material::Wall, at(-1.0, 0.0, 0.0), -WIDTH, []),
+        side(Material::Wall, at(0.0, 0.0, 1.0), 0.0, []),
+    ];
+    for side in plain {
+        report::entered(rt, tables.add_plane(side))?;
     }
-    Ok(())
+    let door = block(at(8.8, 1.05, DEPTH), at(0.9, 2.1, 0.4));
+    let back = side(Material::Wall, at(0.0, 0.0, -1.0), -DEPTH, [door]);
+    report::entered(rt, tables.add_plane(back))
 }
 
-// A panel that faces down: its corners go round counter-clockwise as seen from below.
-fn put_corners(args: &mut [u8], x: f32, z: f32) {
+// Two rows of three lamps, panels that face down.
+fn add_lamps(rt: &impl Print, tables: &mut Tables) -> io::Result<()> {
     let w = LAMP_WIDTH * 0.5;
     let d = LAMP_DEPTH * 0.5;
-    pieces::put_vec(args, 0, at(x - w, LAMP_HEIGHT, z - d));
-    pieces::put_vec(args, 3, at(x + w, LAMP_HEIGHT, z - d));
-    pieces::put_vec(args, 6, at(x + w, LAMP_HEIGHT, z + d));
-    pieces::put_vec(args, 9, at(x - w, LAMP_HEIGHT, z + d));
-}
-
-fn add_lamps(rt: &impl Print, plan: &mut [u8]) -> io::Result<()> {
-    let mut k: u8 = 0;
-    while k < 6 {
-        let mut args = [0u8; 60];
-        let mut out = [0u8; 64];
-        put_corners(&mut args, lamp_x(k), lamp_z(k));
-        pieces::put_vec(&mut args, 12, at(LAMP_LIGHT, LAMP_LIGHT, LAMP_LIGHT));
-        text::entered(rt, viewer::viewer_add_light(plan, &args, &mut out))?;
-        k += 1;
+    for k in 0..6u8 {
+        let x = 1.9 + 2.9 * ((k % 3) as f32);
+        let z = 2.6 + 3.2 * ((k / 3) as f32);
+        let corners = [
+            at(x - w, LAMP_HEIGHT, z - d),
+            at(x + w, LAMP_HEIGHT, z - d),
+            at(x + w, LAMP_HEIGHT, z + d),
+            at(x - w, LAMP_HEIGHT, z + d),
+        ];
+        report::entered(rt, tables.add_light(corners, LAMP_LIGHT))?;
     }
     Ok(())
 }
 
-// The number that a piece's entry is sent.
-pub fn add(plan: &mut [u8], nodes: &mut [u8], order: &mut [u8], p: Piece) -> u32 {
-    let mut args = [0u8; 256];
-    let mut out = [0u8; 64];
-    pieces::put_piece(&mut args, p);
-    viewer::viewer_add_object(plan, nodes, order, &args, &mut out)
-}
-
-fn add_pieces(
-    rt: &impl Print,
-    plan: &mut [u8],
-    nodes: &mut [u8],
-    order: &mut [u8],
-) -> io::Result<()> {
-    let mut k: u8 = 0;
-    while k < 68 {
-        text::entered(rt, add(plan, nodes, order, room_piece(k)))?;
-        k += 1;
+// The desks with their chairs, then the other pieces.
+fn add_furniture(rt: &impl Print, tables: &mut Tables) -> io::Result<()> {
+    for k in 0..DESKS as u8 {
+        let x = desk_x(k);
+        let z = desk_z(k);
+        report::entered(rt, tables.add_object(top(Material::Desk, x, z, 1.3, 0.6)))?;
+        report::entered(rt, tables.add_object(stand(Material::Desk, x, z, 1.3, 0.6)))?;
+        report::entered(rt, tables.add_object(chair(x, z + 0.55, 1.0)))?;
+    }
+    report::entered(
+        rt,
+        tables.add_object(top(Material::Teacher, 2.6, 1.2, 1.8, 0.8)),
+    )?;
+    report::entered(
+        rt,
+        tables.add_object(stand(Material::Teacher, 2.6, 1.2, 1.8, 0.8)),
+    )?;
+    report::entered(rt, tables.add_object(chair(2.6, 0.6, -1.0)))?;
+    report::entered(rt, tables.add_object(board()))?;
+    for k in 0..4u8 {
+        report::entered(rt, tables.add_object(shelf(3.0 + 1.2 * (k as f32))))?;
     }
     Ok(())
 }
 
-pub fn furnish(
-    rt: &impl Print,
-    plan: &mut [u8],
-    nodes: &mut [u8],
-    order: &mut [u8],
-) -> io::Result<()> {
-    add_materials(rt, plan)?;
-    add_sides(rt, plan)?;
-    add_lamps(rt, plan)?;
-    add_pieces(rt, plan, nodes, order)
+pub fn furnish(rt: &impl Print, tables: &mut Tables) -> io::Result<()> {
+    add_materials(rt, tables)?;
+    add_sides(rt, tables)?;
+    add_lamps(rt, tables)?;
+    add_furniture(rt, tables)
 }

@@ -1,310 +1,117 @@
-// Document 01's rows R1 to R4 and their neighbours, on plans that are made by entries: which trees are built, which is
-// too deep, and what a full plan refuses.
+// Plans at the library's limits, made by entries: which trees are built, which would be 64 deep or deeper, and what a
+// plan refuses that is full (it has room for 256 objects, and for 1,024 cutters, of which a piece may have 8).
 
 #![tactic(auto)]
 
 mod powers;
+mod tables;
 
+use powers::POWERS;
 use std::io;
+use tables::{Search, Sphere, Tables};
 
-fn say(rt: &impl Print, what: &[u8], n: u32) -> io::Result<()> {
-    rt.write_all(what)?;
-    rt.print(n)
+// How many spheres with radius 0 at these x enter.
+fn enter(tables: &mut Tables, xs: &[f32]) -> usize {
+    xs.iter()
+        .filter(|x| {
+            let point = Sphere {
+                x: **x,
+                radius: 0.0,
+                cutters: 0,
+            };
+            tables.add(point).number == 0
+        })
+        .count()
 }
 
-fn say_line(rt: &impl Print, what: &[u8], n: u32) -> io::Result<()> {
-    say(rt, what, n)?;
-    rt.write_all(b"\n")
+fn tell_query(rt: &impl Print, tables: &Tables, search: Search) -> io::Result<()> {
+    let answer = tables.query(search);
+    println!(rt;
+        "  query: {}, distance {}, nodes popped {}, objects evaluated {}",
+        answer.number,
+        answer.float(0),
+        answer.word(2),
+        answer.word(3)
+    )
 }
 
-// The bits of 0, 1, 2, 3, 4.
-fn whole(k: u32) -> u32 {
-    match k {
-        0 => 0,
-        1 => 0x3f80_0000,
-        2 => 0x4000_0000,
-        3 => 0x4040_0000,
-        _ => 0x4080_0000,
+// Of a tree of five spheres, the order and the first nodes.
+fn tell_tree(rt: &impl Print, tables: &Tables, nodes: u32) -> io::Result<()> {
+    print!(rt; "  order:")?;
+    for place in 0..5 {
+        print!(rt; " {}", tables.order(place))?;
     }
-}
-
-// A float by its bits: 0 to 5 as a number, any other as the bits.
-fn say_float(rt: &impl Print, what: &[u8], bits: u32) -> io::Result<()> {
-    match bits {
-        0 => say(rt, what, 0),
-        0x3f80_0000 => say(rt, what, 1),
-        0x4000_0000 => say(rt, what, 2),
-        0x4040_0000 => say(rt, what, 3),
-        0x4080_0000 => say(rt, what, 4),
-        0x40a0_0000 => say(rt, what, 5),
-        _ => say_bits(rt, what, bits),
-    }
-}
-
-fn say_bits(rt: &impl Print, what: &[u8], bits: u32) -> io::Result<()> {
-    rt.write_all(what)?;
-    print!(rt; "bits {bits:08x}")
-}
-
-fn add_material(plan: &mut [u8], out: &mut [u8]) -> u32 {
-    let args = [0u8; 20];
-    viewer::viewer_add_material(plan, &args, out)
-}
-
-// A sphere at (x, 0, 0) with radius r and n cutters, each a sphere at 0 with radius 0.5.
-fn put_sphere(args: &mut [u8], x: u32, r: u32, n: u32) {
-    words::put(args, 2, n);
-    words::put(args, 4, x);
-    words::put(args, 7, r);
-    let mut j: u32 = 0;
-    while j < 9 {
-        words::put(args, 20 + 16 * (j as usize), 0x3f00_0000);
-        j += 1;
-    }
-}
-
-// The number that its entry is sent.
-fn add(
-    plan: &mut [u8],
-    nodes: &mut [u8],
-    order: &mut [u8],
-    x: u32,
-    r: u32,
-    n: u32,
-    out: &mut [u8],
-) -> u32 {
-    let mut args = [0u8; 640];
-    put_sphere(&mut args, x, r, n);
-    viewer::viewer_add_object(plan, nodes, order, &args, out)
-}
-
-// Sphere k of row R1, R2 or R3, with radius 0, or of R4: at 0 with radius 1 and eight cutters.
-fn add_of(
-    plan: &mut [u8],
-    nodes: &mut [u8],
-    order: &mut [u8],
-    row: u32,
-    k: u32,
-    out: &mut [u8],
-) -> u32 {
-    match row {
-        1 => add(plan, nodes, order, whole(k), 0, 0, out),
-        2 => add(plan, nodes, order, 0x3f80_0000, 0, 0, out),
-        3 => add(plan, nodes, order, powers::power(k), 0, 0, out),
-        _ => add(plan, nodes, order, 0, 0x3f80_0000, 8, out),
-    }
-}
-
-// One more, where a number says that it entered.
-fn counted(entered: u32, number: u32) -> u32 {
-    if number > 0 {
-        return entered;
-    }
-    if entered < 256 { entered + 1 } else { entered }
-}
-
-// How many of the spheres k, k + 1, .., n - 1 of a row enter.
-fn fill(
-    plan: &mut [u8],
-    nodes: &mut [u8],
-    order: &mut [u8],
-    row: u32,
-    k: u32,
-    n: u32,
-    out: &mut [u8],
-) -> u32 {
-    let mut entered: u32 = 0;
-    let mut i = k;
-    while i < n {
-        entered = counted(entered, add_of(plan, nodes, order, row, i, out));
-        i += 1;
-    }
-    entered
-}
-
-// The number of a query from (0, 3, 4), by the tree (1) or by the plain list (0).
-fn query(plan: &[u8], nodes: &[u8], order: &[u8], tree: u32, out: &mut [u8]) -> u32 {
-    let mut args = [0u8; 20];
-    words::put(&mut args, 1, 0x4040_0000);
-    words::put(&mut args, 2, 0x4080_0000);
-    words::put(&mut args, 3, 0x7f7f_ffff);
-    viewer::viewer_query(plan, nodes, order, tree, &args, out)
-}
-
-fn say_distance(
-    rt: &impl Print,
-    plan: &[u8],
-    nodes: &[u8],
-    order: &[u8],
-    tree: u32,
-) -> io::Result<()> {
-    let mut out = [0u8; 64];
-    let number = query(plan, nodes, order, tree, &mut out);
-    say(rt, b"  query: ", number)?;
-    say_float(rt, b", distance ", words::word(&out, 0))?;
-    say(rt, b", nodes popped ", words::word(&out, 2))?;
-    say_line(rt, b", objects evaluated ", words::word(&out, 3))
-}
-
-fn say_order(rt: &impl Print, order: &[u8]) -> io::Result<()> {
-    rt.write_all(b"  order:")?;
-    let mut k: u32 = 0;
-    while k < 5 {
-        say(rt, b" ", words::word(order, k as usize))?;
-        k += 1;
-    }
-    rt.write_all(b"\n")
-}
-
-// Words i, i + 1 and i + 2.
-fn say_corner(rt: &impl Print, what: &[u8], nodes: &[u8], i: u16) -> io::Result<()> {
-    let i = i as usize;
-    say_float(rt, what, words::word(nodes, i))?;
-    say_float(rt, b", ", words::word(nodes, i + 1))?;
-    say_float(rt, b", ", words::word(nodes, i + 2))
-}
-
-// All nine words of node k.
-fn say_node(rt: &impl Print, nodes: &[u8], k: u8) -> io::Result<()> {
-    let i = 9 * (k as u16);
-    say(rt, b"  node ", k as u32)?;
-    say_corner(rt, b": from (", nodes, i)?;
-    say_corner(rt, b") to (", nodes, i + 3)?;
-    let i = i as usize;
-    say(rt, b"), start ", words::word(nodes, i + 6))?;
-    say(rt, b", count ", words::word(nodes, i + 7))?;
-    say_line(rt, b", right ", words::word(nodes, i + 8))
-}
-
-// The first n nodes, of which at most five are told.
-fn say_nodes(rt: &impl Print, nodes: &[u8], n: u32) -> io::Result<()> {
-    let mut k: u8 = 0;
-    while k < 5 {
-        if (k as u32) < n {
-            say_node(rt, nodes, k)?;
-        }
-        k += 1;
+    println!(rt; "")?;
+    for k in 0..nodes.min(5) as u8 {
+        let node = tables.node(k);
+        println!(rt;
+            "  node {k}: from {} to {}, start {}, count {}, right {}",
+            node.low, node.high, node.start, node.count, node.right
+        )?;
     }
     Ok(())
 }
 
-// The tree is built; how many nodes it has.
-fn build(rt: &impl Print, plan: &[u8], nodes: &mut [u8], order: &mut [u8]) -> io::Result<u32> {
-    let mut out = [0u8; 64];
-    let number = viewer::viewer_build(plan, nodes, order, &mut out);
-    say(rt, b"  build: ", number)?;
-    let count = words::word(&out, 0);
-    say_line(rt, b", nodes ", count)?;
-    Ok(count)
-}
-
-// Spheres k to n - 1 of a row enter an empty plan.
-fn enter(
-    rt: &impl Print,
-    plan: &mut [u8],
-    nodes: &mut [u8],
-    order: &mut [u8],
-    row: u32,
-    k: u32,
-    n: u32,
-) -> io::Result<()> {
-    let mut out = [0u8; 64];
-    add_material(plan, &mut out);
-    let entered = fill(plan, nodes, order, row, k, n, &mut out);
-    say_line(rt, b"  spheres: ", entered)
-}
-
-// Of a tree of five spheres, every word is told.
-fn row(rt: &impl Print, name: &[u8], row: u32, k: u32, n: u32) -> io::Result<()> {
-    let mut plan = [0u8; wire_lengths::PLAN_BYTES];
-    let mut nodes = [0u8; wire_lengths::NODES_BYTES];
-    let mut order = [0u8; wire_lengths::ORDER_BYTES];
-    rt.write_all(name)?;
-    enter(rt, &mut plan, &mut nodes, &mut order, row, k, n)?;
-    let count = build(rt, &plan, &mut nodes, &mut order)?;
-    if n == 5 {
-        say_order(rt, &order)?;
-        say_nodes(rt, &nodes, count)?;
+// Spheres with radius 0 at these x enter an empty plan, and a tree is built of them; of five, every word is told.
+fn row(rt: &impl Print, name: &str, xs: &[f32]) -> io::Result<()> {
+    let mut tables = Tables::EMPTY;
+    println!(rt; "{name}")?;
+    tables.add_material();
+    println!(rt; "  spheres: {}", enter(&mut tables, xs))?;
+    let built = tables.build();
+    let nodes = built.word(0);
+    println!(rt; "  build: {}, nodes {nodes}", built.number)?;
+    if xs.len() == 5 {
+        tell_tree(rt, &tables, nodes)?;
     }
-    say_distance(rt, &plan, &nodes, &order, 1)
+    tell_query(rt, &tables, Search::Tree)
 }
 
-// A sphere with radius 1 and n cutters is offered.
-fn offer(
-    rt: &impl Print,
-    plan: &mut [u8],
-    nodes: &mut [u8],
-    order: &mut [u8],
-    what: &[u8],
-    n: u32,
-) -> io::Result<()> {
-    let mut out = [0u8; 64];
-    let number = add(plan, nodes, order, 0, 0x3f80_0000, n, &mut out);
-    say(rt, what, number)?;
-    say_line(rt, b", its number ", words::word(&out, 0))
-}
-
-fn fill_all(
-    rt: &impl Print,
-    plan: &mut [u8],
-    nodes: &mut [u8],
-    order: &mut [u8],
-) -> io::Result<()> {
-    let mut out = [0u8; 64];
-    let number = add_material(plan, &mut out);
-    say_line(rt, b"  material: ", number)?;
-    let entered = fill(plan, nodes, order, 4, 0, 128, &mut out);
-    say_line(rt, b"  objects with eight cutters that entered: ", entered)
+// A sphere at 0 with radius 1 is offered.
+fn offer(rt: &impl Print, tables: &mut Tables, what: &str, cutters: u32) -> io::Result<()> {
+    let answer = tables.add(Sphere {
+        x: 0.0,
+        radius: 1.0,
+        cutters,
+    });
+    println!(rt;
+        "  {what}: {}, its number {}",
+        answer.number,
+        answer.word(0)
+    )
 }
 
 // The tables of nodes and order begin with other bytes, which the first entry clears.
 fn full(rt: &impl Print) -> io::Result<()> {
-    let mut plan = [0u8; wire_lengths::PLAN_BYTES];
-    let mut nodes = [7u8; wire_lengths::NODES_BYTES];
-    let mut order = [7u8; wire_lengths::ORDER_BYTES];
-    rt.write_all(b"R4, a plan filled to its limits\n")?;
-    say_distance(rt, &plan, &nodes, &order, 0)?;
-    offer(
-        rt,
-        &mut plan,
-        &mut nodes,
-        &mut order,
-        b"  an object before its material: ",
-        0,
-    )?;
-    fill_all(rt, &mut plan, &mut nodes, &mut order)?;
-    say_line(rt, b"  nodes after them, word 0: ", words::word(&nodes, 0))?;
-    offer(
-        rt,
-        &mut plan,
-        &mut nodes,
-        &mut order,
-        b"  the 1,025th cutter: ",
-        1,
-    )?;
-    offer(
-        rt,
-        &mut plan,
-        &mut nodes,
-        &mut order,
-        b"  an object without cutters: ",
-        0,
-    )?;
-    offer(
-        rt,
-        &mut plan,
-        &mut nodes,
-        &mut order,
-        b"  nine cutters: ",
-        9,
-    )?;
-    say_distance(rt, &plan, &nodes, &order, 0)
+    let mut tables = Tables::EMPTY;
+    tables.spoil_tree();
+    println!(rt; "R4, a plan filled to its limits")?;
+    tell_query(rt, &tables, Search::List)?;
+    offer(rt, &mut tables, "an object before its material", 0)?;
+    println!(rt; "  material: {}", tables.add_material().number)?;
+    let eight = Sphere {
+        x: 0.0,
+        radius: 1.0,
+        cutters: 8,
+    };
+    let entered = (0..128u8).filter(|_| tables.add(eight).number == 0).count();
+    println!(rt; "  objects with eight cutters that entered: {entered}")?;
+    println!(rt; "  nodes after them, word 0: {}", tables.first_word())?;
+    offer(rt, &mut tables, "the 1,025th cutter", 1)?;
+    offer(rt, &mut tables, "an object without cutters", 0)?;
+    offer(rt, &mut tables, "nine cutters", 9)?;
+    tell_query(rt, &tables, Search::List)
 }
 
 fn main(rt: HostRuntime) -> io::Result<()> {
+    let powers = POWERS.map(scalar::float);
     full(&rt)?;
-    row(&rt, b"R1, five spheres at x 0 to 4\n", 1, 0, 5)?;
-    row(&rt, b"R2, five with one centre\n", 2, 0, 5)?;
-    row(&rt, b"R3, powers of 1.25 from -25 to 41\n", 3, 1, 68)?;
-    row(&rt, b"R3, powers of 1.25 from -26 to 41\n", 3, 0, 68)
+    row(
+        &rt,
+        "R1, five spheres at x 0 to 4",
+        &[0.0, 1.0, 2.0, 3.0, 4.0],
+    )?;
+    row(&rt, "R2, five with one centre", &[1.0; 5])?;
+    row(&rt, "R3, powers of 1.25 from -25 to 41", &powers[1..])?;
+    row(&rt, "R3, powers of 1.25 from -26 to 41", &powers)
 }

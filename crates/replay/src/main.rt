@@ -1,17 +1,20 @@
 // Replays stored answers of the Rust: records of 32 words from standard input, each a call, its number, fourteen words
-// of arguments and the sixteen words that it must send. oracle/README.md says how they were made.
+// of arguments and the sixteen words that it must send. oracle/README.md says how they were made. Calls are told by
+// number, as they are stored.
 
 #![tactic(auto)]
 
 use std::io;
 use std::io::Read;
 
+const RECORD_BYTES: usize = 128;
+
+// At most so many records are read.
+const MOST: u64 = 1_000_000;
+
 // Floats compare by value: both zeros are one.
 fn same_word(a: u32, b: u32) -> bool {
-    if a % 0x8000_0000 == 0 {
-        return b % 0x8000_0000 == 0;
-    }
-    a == b
+    a == b || (a % 0x8000_0000 == 0 && b % 0x8000_0000 == 0)
 }
 
 fn call(which: u32, args: &[u8], out: &mut [u8]) -> u32 {
@@ -27,60 +30,36 @@ fn call(which: u32, args: &[u8], out: &mut [u8]) -> u32 {
     }
 }
 
-// Whether the sixteen words of out are those of rec from word 16 on.
-fn same_words(rec: &[u8], out: &[u8]) -> bool {
-    let mut i: usize = 0;
-    while i < 16 {
-        if !same_word(words::word(rec, 16 + i), words::word(out, i)) {
-            return false;
-        }
-        i += 1;
-    }
-    true
+// Whether a call sends the number and the words that its record says.
+fn agrees(rec: &[u8; RECORD_BYTES]) -> bool {
+    let mut out = [255; 64];
+    let number = call(words::word(rec, 0), &rec[8..64], &mut out);
+    number == words::word(rec, 1)
+        && (0..16usize).all(|i| same_word(words::word(rec, 16 + i), words::word(&out, i)))
 }
 
-fn agrees(rec: &[u8]) -> bool {
-    if rec.len() < 128 {
-        return false;
-    }
-    let mut out = [255u8; 64];
-    let n = call(words::word(rec, 0), &rec[8..64], &mut out);
-    if n == words::word(rec, 1) {
-        return same_words(rec, &out);
-    }
-    false
-}
-
-fn say(rt: &impl Print, seen: u64, same: u64) -> io::Result<()> {
-    println!(rt; "{same} of {seen} stored answers agree")
-}
-
-// The next record; false where the input ends before the record does.
-fn read_record(input: &mut impl Read, rec: &mut [u8; 128]) -> io::Result<bool> {
-    match input.read_exact(rec) {
-        Ok(()) => Ok(true),
-        Err(e) => {
-            if e.kind() == io::ErrorKind::UnexpectedEof {
-                return Ok(false);
-            }
-            Err(e)
-        }
+// The next record; none where the input ends before the record does.
+fn read_record(input: &mut impl Read) -> io::Result<Option<[u8; RECORD_BYTES]>> {
+    let mut rec = [0; RECORD_BYTES];
+    match input.read_exact(&mut rec) {
+        Ok(()) => Ok(Some(rec)),
+        Err(e) if e.kind() == io::ErrorKind::UnexpectedEof => Ok(None),
+        Err(e) => Err(e),
     }
 }
 
 fn main(rt: HostRuntime) -> io::Result<()> {
     let mut input = rt.reader();
-    let mut rec = [0u8; 128];
-    let mut seen: u64 = 0;
-    let mut same: u64 = 0;
-    while seen < 1000000 {
-        if !read_record(&mut input, &mut rec)? {
+    let mut seen = 0u64;
+    let mut same = 0u64;
+    for i in 0..MOST {
+        let Some(rec) = read_record(&mut input)? else {
             break;
-        }
-        seen += 1;
+        };
+        seen = i + 1;
         if agrees(&rec) {
             same += 1;
         }
     }
-    say(&rt, seen, same)
+    println!(rt; "{same} of {seen} stored answers agree")
 }

@@ -1,6 +1,0 @@
--- What is left to do falls in each turn of `classroom::room::add_sides`.
-use Rattle.std.proofs.Common.{◌-◌}
-use Rattle.classroom.proofs.room.add_sides.Given as goal
-
-abbrev pub decreases-loop-k : goal.decreases-loop-k
-decreases-loop-k g l = 6 - l.k

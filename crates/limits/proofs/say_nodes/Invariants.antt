@@ -1,6 +1,0 @@
--- What is left to do falls in each turn of `limits::say_nodes`.
-use Rattle.std.proofs.Common.{◌-◌}
-use Rattle.limits.proofs.say_nodes.Given as goal
-
-abbrev pub decreases-loop-k : goal.decreases-loop-k
-decreases-loop-k g l = 5 - l.k
