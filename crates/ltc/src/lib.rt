@@ -3,11 +3,12 @@
 
 #![tactic(auto)]
 
-ghost use Rattle.std.specs.Prelude.{◌≡◌, ◌≤◌, List, [], ◌∷◌, ◌++◌, length, take};
+ghost use Rattle.std.specs.Prelude.{◌≡◌, ◌-◌, ◌≤◌, List, [], ◌∷◌, ◌++◌, length, take, drop};
 ghost use Rattle.vectors.specs.declared.Vec3.{Vec3};
 ghost use Rattle.ltc.specs.Frame.{side_of, frame_of, local_of, to_local_of};
 ghost use Rattle.ltc.specs.FormFactor.{crossing_of, clip_edge, clip_of, on_sphere, edge_sum, ring_of};
 ghost use Rattle.ltc.specs.FormFactor.{form_factor_of};
+ghost use Rattle.ltc.specs.Inside.Places.{zeros, as_many, given_back};
 
 use quad::Quad;
 use std::marker::Model;
@@ -22,8 +23,8 @@ pub struct Axes {
     pub bit: Vec3,
 }
 
-// At most five corners: the first n of the places.
-#[derive(Drop)]
+// At most five corners: the first n of the places. The others are zero, so that the corners give the places back.
+#[derive(Clone, Copy)]
 pub struct Corners {
     places: [Vec3; PLACES],
     n: usize,
@@ -35,7 +36,14 @@ impl Model for Corners {
 
     ghost view = { λ c. take c.n c.places };
 
-    ghost invariant = { λ c. c.n ≤ 5 };
+    ghost invariant = { λ c. (c.n ≤ 5) × (length c.places ≡ 5) × (drop c.n c.places ≡ zeros (5 - c.n)) };
+
+    ghost inverse = { λ vs. record { places = vs ++ zeros (5 - length vs); n = length vs } };
+
+    ghost inverse_ok = { λ c h i. record {
+      places = given_back c.n c.places h.0 h.1 h.2 i;
+      n = as_many c.n c.places h.0 h.1 i;
+    } };
 }
 
 // 1 with the sign of a normal's z.
