@@ -92,7 +92,7 @@ fn root_bits(b: u32) -> u32
     }
     let mut m = scaled(b);
     let mut j = ((exponent(b) + 1) >> 1) + 62;
-    // Not counted: as many turns as a subnormal's digits have zeros before them.
+    // Not counted: a turn for every two zeros before a subnormal's digits.
     while m < 0x80_0000 {
         m = m << 2;
         j = j - 1;

@@ -53,14 +53,3 @@ pub part_put
 part_put b vs p e h f =
     let q : p + (e - p) ≡ p + length vs = omega arith in
     rw (drop-drop (e - p) p b, q) (sym (append_assoc (take p b) vs (drop (p + length vs) b)) ∙ sym (sets-eq vs b p (omega arith)))
-
--- four bytes put in the place of those from p on
-pub four_put
-    : (b : List ℕ) (p x y z u : ℕ)
-    → p + 4 ≤ length b
-    → take p b ++ ((x ∷ y ∷ z ∷ u ∷ []) ++ drop (p + 4 - p) (drop p b)) ≡ set (set (set (set b p x) (p + 1) y) (p + 2) z) (p + 3) u
-four_put b p x y z u h =
-    let e1 : p + 1 ≡ suc p = omega arith in
-    let e2 : p + 2 ≡ suc (suc p) = omega arith in
-    let e3 : p + 3 ≡ suc (suc (suc p)) = omega arith in
-    part_put b (x ∷ y ∷ z ∷ u ∷ []) p (p + 4) refl h ∙ rw (e1, e2, e3)

@@ -17,18 +17,22 @@ pub fn word(b: &[u8], i: usize) -> u32
     0
 }
 
-// Word i becomes w, where the bytes have all of it.
+// Word i becomes w, where the bytes have all of it: four plain stores, so that a loop over it is a copy.
 pub fn put(b: &mut [u8], i: usize, w: u32)
     ensures { b.new ≡ put_word b.old i w }
 {
     if i < b.len() / 4 {
         let p = 4 * i;
-        b[p..p + 4].copy_from_slice(&w.to_le_bytes());
+        let [b0, b1, b2, b3] = w.to_le_bytes();
+        b[p] = b0;
+        b[p + 1] = b1;
+        b[p + 2] = b2;
+        b[p + 3] = b3;
     }
 }
 
-// The words of the bytes are copied out, as far as the bytes go, and then zeros: two loops, so that each compiles to a
-// copy or a fill.
+// The words of the bytes are copied out, as far as the bytes go, and then zeros: a loop and a fill, so that the loop
+// compiles to a copy.
 pub fn load(b: &[u8], words: &mut [u32])
     ensures { words.new ≡ words_of b.now (length words.old) }
 {
@@ -55,12 +59,13 @@ pub fn floats(ws: &[u32], fs: &mut [f32])
     }
 }
 
-// The words are copied in, as far as the bytes have their places.
+// The words are copied in, as far as the bytes have their places: no turn tests for its place.
 pub fn store(words: &[u32], b: &mut [u8])
     ensures { b.new ≡ with_words b.old words.now }
 {
-    for (i, w) in words.iter().enumerate() {
-        put(b, i, *w);
+    let m = words.len().min(b.len() / 4);
+    for i in 0..m {
+        put(b, i, words[i]);
     }
 }
 
