@@ -9,10 +9,18 @@ ghost use Rattle.bvh_rules.specs.Nodes.{nodes_of, order_of};
 ghost use Rattle.bvh_rules.specs.Inside.Steps.{held_at, holds_all, leaf_words, leaf_ok, hull_ok, kind_of};
 ghost use Rattle.bvh_rules.specs.Inside.Steps.{check_of, order_ok, whole_of};
 ghost use Rattle.bvh_rules.specs.Check.{judge_of, is_good, refused_number, standing_number};
+ghost use Rattle.bvh_check.specs.Inside.Part.{told};
 
 use bvh_rules::{Kind, Node, Sub};
 use plan::{Floats, Words};
 use sdf::Aabb;
+
+// A subtree as the walk hands it up: a `Sub` with its end in a word, since bytes that are spare are slow to copy.
+#[derive(Clone, Copy)]
+struct Part {
+    next: u32,
+    ends: u32,
+}
 
 #[tactic(auto, unfolding(bvh_rules::specs::Inside::Steps::held_at))]
 fn held(ws: &Words, fs: &Floats, b: Aabb, i: usize) -> bool
@@ -98,8 +106,8 @@ fn check_sub(
     at: u32,
     start: usize,
     level: usize,
-) -> Option<Sub>
-    ensures { result ≡ check_of level (nodes_of ws.now) (nodes_of fs.now)
+) -> Option<Part>
+    ensures { told result ≡ check_of level (nodes_of ws.now) (nodes_of fs.now)
         (order_of ws.now) (boxes_of (plan_of ws.now fs.now)) outer at start }
 {
     if level == 0 {
@@ -108,11 +116,18 @@ fn check_sub(
     let v = bvh_rules::node_at(ws, fs, at as usize);
     let k = kind_of(ws, fs, v, outer, at, start)?;
     match k {
-        Kind::Leaf(next, ends) => Some(Sub { next, ends }),
+        Kind::Leaf(next, ends) => {
+            // The proof has from it that the end, no more than this count, fits a word.
+            let _most = bvh_rules::object_count(ws);
+            Some(Part {
+                next,
+                ends: ends as u32,
+            })
+        }
         Kind::Inner(left, right) => {
             let part = check_sub(ws, fs, v.hull, left, start, level - 1)?;
             if right == part.next {
-                check_sub(ws, fs, v.hull, part.next, part.ends, level - 1)
+                check_sub(ws, fs, v.hull, part.next, part.ends as usize, level - 1)
             } else {
                 None
             }
@@ -141,11 +156,21 @@ fn check_order(ws: &Words, n: usize) -> bool
     true
 }
 
-fn whole(s: Option<Sub>, n: usize) -> Option<Sub>
-    ensures { result ≡ whole_of s n }
+fn whole(s: Option<Part>, n: usize) -> Option<Sub>
+    ensures { result ≡ whole_of (told s) n }
 {
+    // A larger one is copied in pieces that overlap, at each node (docs/SPEED.md).
+    prove!(size_of::<Option<Part>>() <= 12);
     let tree = s?;
-    if tree.ends == n { Some(tree) } else { None }
+    let ends = tree.ends as usize;
+    if ends == n {
+        Some(Sub {
+            next: tree.next,
+            ends,
+        })
+    } else {
+        None
+    }
 }
 
 // The whole tree, with so many levels: how many nodes it has and how many objects.
