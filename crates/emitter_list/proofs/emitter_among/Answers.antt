@@ -1,5 +1,5 @@
 -- `emitter_list::emitter_among` meets its contract: a turn is one step of the list that is left. Assumes nothing.
-use Rattle.std.proofs.Common.{◌≡◌, ℕ, ◌+◌, ◌<◌, List, length, drop, get_or, refl, add-one, drop-cons}
+use Rattle.std.proofs.Common.{◌≡◌, ℕ, ◌+◌, ◌<◌, List, length, drop, get_or, refl, add-one, drop-cons, arith}
 use Rattle.std.proofs.Math.ListN.{drop_of_length-le}
 use lib.Ieee.{Float}
 use Rattle.vectors.specs.declared.Vec3.{Vec3}
@@ -15,16 +15,15 @@ turn : (ls : List QuadLight) (i : ℕ) (d : QuadLight) (ro rd : Vec3) (tmax : Fl
 unfolding emitter_from
 turn ls i d ro rd tmax b b' w h e f = rw (e, add-one) (rw (drop-cons ls i d h) at f)
 
-pub loop-light-init : goal.loop-light-init
+pub loop-i-init : goal.loop-i-init
 unfolding emitter_of
-loop-light-init c = refl
+loop-i-init c = refl
 
-pub loop-light-preserved : goal.loop-light-preserved
-loop-light-preserved c =
-    turn _ _ _ _ _ _ _ _ _ c.loop-light-test.true c.emitter_step-best.ensures c.loop-light.invariant
+pub loop-i-preserved : goal.loop-i-preserved
+loop-i-preserved c =
+    let left : c.loop-i.i < length c.args.lights.now = omega arith in
+    turn _ _ _ _ _ _ _ _ _ left c.emitter_step-best.ensures c.loop-i.invariant
 
 pub returns : goal.returns
 unfolding emitter_from
-returns c =
-    rw (drop_of_length-le c.args.lights.now {i = c.loop-light.light-index} c.loop-light-test.false)
-    at c.loop-light.invariant
+returns c = rw (drop_of_length-le c.args.lights.now {i = c.loop-i.i} (omega arith)) at c.loop-i.invariant

@@ -18,7 +18,7 @@ loop-l-init c = refl
 
 pub loop-l-preserved : goal.loop-l-preserved
 loop-l-preserved c =
-    turn _ _ _ _ _ _ c.loop-l-test.true c.loop-l.invariant c.light_number.ensures c.lower-least.ensures
+    turn _ _ _ _ _ _ c.loop-l-test.true c.loop-l.invariant c.light_number-own.ensures c.lower-least.ensures
 
 pub returns : goal.returns
 returns c =
